@@ -1,0 +1,3 @@
+mod Digits
+pub mod Reduced
+pub mod Unique

@@ -1,0 +1,8 @@
+mod Extremes
+mod Growth
+mod Two
+mod Line
+mod Causes
+mod OneAnswer
+mod Outcomes
+mod ShowRows

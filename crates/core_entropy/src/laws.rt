@@ -1,0 +1,28 @@
+// What is true of all words. Each law stands on a function that does nothing.
+ghost use Rattle.std.specs.Prelude.{◌≡◌, ◌⊎◌, ℕ, List};
+ghost use Rattle.ce_angle.specs.declared.angle.AngleError.{AngleError};
+ghost use Rattle.core_entropy.specs.Task.{IsAnswer};
+ghost use Rattle.core_entropy.specs.Words.{AsksNothing, AsksFlawed, AsksTooLong, AsksOrbit};
+
+/// Whatever the words are, they ask for nothing, for a flawed angle, for a too long orbit or for an orbit.
+pub fn words_have_a_cause()
+    ensures { (words : List (List ℕ)) → AsksNothing words
+        ⊎ ((flaw : AngleError) × AsksFlawed words flaw) ⊎ AsksTooLong words ⊎ AsksOrbit words }
+{}
+
+/// The four exclude each other, and words are flawed in one way alone.
+pub fn words_have_one_cause()
+    ensures no_command { (words : List (List ℕ)) → AsksNothing words
+        → ((flaw : AngleError) → ¬ (AsksFlawed words flaw)) × ¬ (AsksTooLong words) × ¬ (AsksOrbit words) }
+    ensures flawed { (words : List (List ℕ)) (flaw : AngleError) → AsksFlawed words flaw
+        → ¬ (AsksTooLong words) × ¬ (AsksOrbit words) }
+    ensures one_flaw { (words : List (List ℕ)) (flaw other : AngleError)
+        → AsksFlawed words flaw → AsksFlawed words other → flaw ≡ other }
+    ensures too_long { (words : List (List ℕ)) → AsksTooLong words → ¬ (AsksOrbit words) }
+{}
+
+/// Words have one answer.
+pub fn answers_are_unique()
+    ensures { (words : List (List ℕ)) (text other : List ℕ)
+        → IsAnswer words text → IsAnswer words other → text ≡ other }
+{}

@@ -1,0 +1,33 @@
+// The program: intervals that enclose the growth rate of Thurston's transition matrix of a rational external angle.
+//
+// Words come in, and one line goes out, or an error line. `run::run_command` is the whole program over any sinks; its
+// clauses say that the printed interval encloses (specs/Answer.antt) and which words end with which status
+// (specs/Status.antt). The way from words to line: command, angle, bounds, text, run.
+#![tactic(auto)]
+
+mod angle;
+mod bounds;
+mod command;
+mod laws;
+mod run;
+mod show;
+mod status;
+#[cfg(test)]
+mod tests;
+mod text;
+mod words;
+
+use ce_port::StdSink;
+use run::{run_command, tell};
+use std::process::ExitCode;
+use words::program_words;
+
+fn main(rt: HostRuntime) -> ExitCode {
+    let mut out = StdSink::new(rt.stdout());
+    let mut err = StdSink::new(rt.stderr());
+    let status = match program_words(&rt) {
+        Ok(words) => run_command(rt.alloc(), &words, &mut out, &mut err),
+        Err(status) => tell(&mut err, status),
+    };
+    ExitCode::from(status.code())
+}

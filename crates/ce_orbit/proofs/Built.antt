@@ -1,10 +1,10 @@
 -- The orbit as it is built: the numerators so far, each one new.
-use Rattle.std.proofs.Common.{◌≡◌, ◌≢◌, ◌<◌, ◌≤◌, ◌+◌, ◌*◌, ◌%◌, ◌⊎◌, ◌∙◌, ℕ, suc, List, length, get_or, set, take, inl, inr, refl, sym, ap, subst, arith, add-one}
+use Rattle.std.proofs.Common.{◌≡◌, ◌≢◌, ◌<◌, ◌≤◌, ◌+◌, ◌*◌, ◌%◌, ◌∙◌, ℕ, List, length, get_or, set, take, inl, inr, sym, ap, subst, arith, add-one}
 use Rattle.std.proofs.lemmas.Bool.{cases_lt}
 use Rattle.std.proofs.lemmas.Grind.{common_steps}
 use Rattle.std.proofs.lemmas.List.{length-set, get_or-take, get_or-set_same, get_or-set_other}
 use Rattle.ce_angle.specs.Fraction.{Fraction, IsAngle}
-use Rattle.ce_orbit.specs.Orbit.{ForwardOrbit, IsForwardOrbit, numerator_at, AreDistinct}
+use Rattle.ce_orbit.specs.Orbit.{IsForwardOrbit, numerator_at, AreDistinct}
 use Rattle.ce_orbit.specs.Search.{IsPlaceOf, IsNowhere}
 
 -- The first len numerators stand in a list with room for 128, and current is the next one.

@@ -1,11 +1,11 @@
 -- Each angle has an orbit, of at most so many angles or of more.
-use Rattle.std.proofs.Common.{◌≡◌, ◌≢◌, ◌<◌, ◌≤◌, ◌+◌, ◌⊎◌, ◌∙◌, inl, inr, ℕ, zero, suc, Bool, true, false, List, length, map, get_or, refl, sym, ap, subst, arith, add-one}
+use Rattle.std.proofs.Common.{◌≡◌, ◌≢◌, ◌<◌, ◌⊎◌, ◌∙◌, inl, inr, ℕ, zero, suc, Bool, true, false, map, refl, sym, ap, subst, arith, add-one}
 use Rattle.std.specs.List.{range_with_len}
 use Rattle.std.proofs.lemmas.Bool.{cases_lt, false≢true, eqb-true, eq-eqb}
 use Rattle.std.proofs.Math.Dec.{eqb}
 use Rattle.std.proofs.lemmas.List.FromFn.{length-map-range_with_len, get_or-map-range_with_len}
 use Rattle.ce_angle.specs.Fraction.{Fraction, IsAngle}
-use Rattle.ce_orbit.specs.Orbit.{ForwardOrbit, IsForwardOrbit, HasOrbitWithin, HasOrbitAbove, numerator_at, AreDistinct}
+use Rattle.ce_orbit.specs.Orbit.{HasOrbitWithin, HasOrbitAbove, numerator_at, AreDistinct}
 
 -- a number among the first values of a sequence, or at none of them
 pub record IsFound (f : ℕ → ℕ) (x n : ℕ) : Type 0 where

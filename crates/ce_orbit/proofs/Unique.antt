@@ -1,8 +1,8 @@
 -- An angle has one orbit.
-use Rattle.std.proofs.Common.{◌≡◌, ◌<◌, ◌≤◌, ◌⊎◌, ◌↔◌, ◌∙◌, ℕ, List, length, get_or, inl, inr, refl, sym, ap, subst, arith}
+use Rattle.std.proofs.Common.{◌≡◌, ◌<◌, ◌≤◌, ◌⊎◌, ◌↔◌, ◌∙◌, ℕ, List, length, inl, inr, sym, ap, subst, arith}
 use Rattle.std.proofs.lemmas.Bool.{cases_lt, cases_order}
 use Rattle.std.proofs.lemmas.Grind.{same_number_lists}
-use Rattle.ce_angle.specs.Fraction.{Fraction, IsAngle}
+use Rattle.ce_angle.specs.Fraction.{Fraction}
 use Rattle.ce_orbit.specs.Orbit.{ForwardOrbit, IsForwardOrbit, HasOrbitAbove, numerator_at, AreDistinct}
 
 -- Where the numerators repeat at n, they are not all different beyond n.

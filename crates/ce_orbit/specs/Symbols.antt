@@ -1,5 +1,5 @@
 -- The kneading sequence of an angle: the symbols of its orbit. Sources: [Gao2020], [LauSchleicher1994].
-use Rattle.std.specs.Prelude.{ℕ, true, false, Bool, List, map, ⊤, if◌then◌else◌, ◌&&◌}
+use Rattle.std.specs.Prelude.{ℕ, ⊤, if◌then◌else◌, ◌&&◌}
 use Rattle.ce_angle.specs.Fraction.{Fraction}
 use Rattle.ce_orbit.specs.Halves.{in_first_half, in_second_half}
 use Rattle.ce_orbit.specs.declared.symbol.Symbol.{Symbol}

@@ -1,11 +1,10 @@
 -- Where the images of a pair of places are: the places are those of the doubles, and they differ.
-use Rattle.std.proofs.Common.{◌≡◌, ◌≢◌, ◌<◌, ◌≤◌, ◌∙◌, ◌⊎◌, inl, inr, ℕ, Bool, true, false, length, get_or, refl, sym, ap, arith}
+use Rattle.std.proofs.Common.{◌≡◌, ◌≢◌, ◌<◌, ◌∙◌, ◌⊎◌, inl, inr, ℕ, true, false, length, get_or, sym, ap, arith}
 use Rattle.std.proofs.lemmas.Bool.{false≢true, cases_order}
-use Rattle.ce_angle.specs.Fraction.{Fraction, IsAngle}
 use Rattle.ce_orbit.specs.Halves.{is_separated}
 use Rattle.ce_orbit.specs.Orbit.{ForwardOrbit, IsForwardOrbit, doubled, next_of}
 use Rattle.ce_orbit.proofs.Ends.{end_from_double, end-together, separated-swap, separated_from_doubles}
-use Rattle.ce_orbit.proofs.Next.{next-within, next-doubles, place-below, place-apart, first-place}
+use Rattle.ce_orbit.proofs.Next.{next-doubles, place-below, place-apart, first-place}
 
 -- Two places, the lower one first.
 pub record ArePlaces (o : ForwardOrbit) (i j : ℕ) : Type 0 where

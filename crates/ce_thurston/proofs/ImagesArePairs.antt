@@ -1,11 +1,10 @@
 -- Each image of a pair of an orbit is a pair of it.
-use Rattle.std.proofs.Common.{◌≡◌, ◌≢◌, ◌<◌, ◌≤◌, ◌∙◌, ◌⊎◌, inl, inr, ℕ, Bool, true, false, List, [], ◌∷◌, length, get_or, refl, sym, ap, subst, arith}
+use Rattle.std.proofs.Common.{◌≡◌, ◌≢◌, ◌<◌, ◌∙◌, ◌⊎◌, inl, inr, ℕ, Bool, true, false, List, [], ◌∷◌, length, get_or, refl, sym, ap, subst, arith}
 use Rattle.std.specs.Prelude.{All, Contains}
 use Rattle.std.proofs.lemmas.Bool.{cases_order}
 use Rattle.std.proofs.lemmas.List.{get_or_default}
 use Rattle.std.proofs.lemmas.List.Elements.{All-cons, All-nil}
 use Rattle.std.proofs.Math.Nat.{zero-mod}
-use Rattle.ce_angle.specs.Fraction.{Fraction, IsAngle}
 use Rattle.ce_orbit.specs.Halves.{is_separated}
 use Rattle.ce_orbit.specs.Orbit.{ForwardOrbit, IsForwardOrbit, doubled, next_of}
 use Rattle.ce_orbit.proofs.Ends.{end-together, separated-swap}

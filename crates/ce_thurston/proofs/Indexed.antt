@@ -1,19 +1,16 @@
 -- The row of two places has the indices of the images of their pair.
-use Rattle.std.proofs.Common.{◌≡◌, ◌≢◌, ◌<◌, ◌≤◌, ◌+◌, ◌*◌, ◌%◌, ◌==◌, ◌∙◌, ◌⊎◌, inl, inr, ℕ, zero, suc, Bool, true, false, cond, List, [], ◌∷◌, ◌++◌, length, map, get_or, refl, sym, ap, subst, arith}
-use Rattle.std.specs.Prelude.{All}
+use Rattle.std.proofs.Common.{◌≡◌, ◌≢◌, ◌<◌, ◌≤◌, ◌==◌, ◌⊎◌, inl, inr, ℕ, Bool, true, false, [], ◌∷◌, length, get_or, refl, sym, arith}
 use Rattle.std.specs.List.{AllZip}
 use Rattle.std.proofs.lemmas.Bool.{cases_lt}
 use Rattle.std.proofs.lemmas.Bool.Decides.{nat_tests}
 use Rattle.std.proofs.lemmas.List.Elements.{All-cons, All-nil}
-use Rattle.ce_rows.specs.Rows.{row_at, successors_in, targets_of, HasTargetsBelow}
-use Rattle.ce_rows.specs.declared.row.Row.{Row}
+use Rattle.ce_rows.specs.Rows.{row_at, targets_of, HasTargetsBelow}
 use Rattle.ce_rows.specs.declared.row.Row.TheVariants.{One, Two}
-use Rattle.ce_angle.specs.Fraction.{Fraction}
 use Rattle.ce_orbit.specs.Halves.{is_separated}
 use Rattle.ce_orbit.specs.Orbit.{ForwardOrbit, IsForwardOrbit, doubled, next_of}
 use Rattle.ce_orbit.proofs.Next.{next-within, next-doubles, place-below, place-apart, first-place, one_place}
 use Rattle.ce_thurston.specs.Pairs.{images}
-use Rattle.ce_thurston.specs.Indices.{index_of, index_between, HasIndex, row_between, place_pairs, rows_of_orbit}
+use Rattle.ce_thurston.specs.Indices.{index_of, index_between, HasIndex, row_between, rows_of_orbit}
 use Rattle.ce_thurston.proofs.Images.{ArePlaces, first-apart, second-apart, doubles-apart}
 use Rattle.ce_thurston.proofs.PairWalks.{images-two, images-one}
 use Rattle.ce_thurston.proofs.PlacePairs.{get_or-map-place_pairs, length-map-place_pairs}

@@ -1,17 +1,16 @@
 -- The pairs of an orbit beside its rows: what holds of the numbers of successors holds of the numbers of images.
-use Rattle.std.proofs.Common.{◌≡◌, ◌≢◌, ◌<◌, ◌≤◌, ◌+◌, ◌-◌, ◌==◌, ◌⊎◌, ◌∙◌, inl, inr, ℕ, zero, suc, Bool, true, false, List, [], ◌∷◌, ◌++◌, length, map, get_or, refl, sym, ap, subst, arith}
+use Rattle.std.proofs.Common.{◌≡◌, ◌<◌, ◌≤◌, ◌-◌, ◌==◌, ◌⊎◌, ◌∙◌, inl, inr, ℕ, zero, suc, Bool, true, false, List, [], ◌∷◌, length, map, get_or, refl, sym, ap, subst, arith}
 use Rattle.std.specs.Prelude.{All, Contains}
 use Rattle.std.specs.List.{Any, AllZip}
 use Rattle.std.proofs.lemmas.Bool.{cases_lt, false≢true, eqb-true, eq-eqb}
 use Rattle.std.proofs.lemmas.List.{get_or_default}
-use Rattle.std.proofs.lemmas.List.Elements.{All-append, All-map, All-nil, All-cons, All-from_get_or, All-get_or, All-contains, Contains-append_left, Contains-append_right}
+use Rattle.std.proofs.lemmas.List.Elements.{All-append, All-map, All-nil, All-cons, All-from_get_or, Contains-append_left, Contains-append_right}
 use Rattle.ce_rows.specs.Rows.{row_at, successors_in, targets_of}
-use Rattle.ce_rows.specs.declared.row.Row.{Row}
-use Rattle.ce_rows.specs.declared.row.Row.TheVariants.{One, Two}
+use Rattle.ce_rows.specs.declared.row.Row.TheVariants.{One}
 use Rattle.ce_orbit.specs.Orbit.{ForwardOrbit, IsForwardOrbit}
 use Rattle.ce_orbit.proofs.Ends.{end-together}
 use Rattle.ce_thurston.specs.Pairs.{images, pairs_among, pairs_of}
-use Rattle.ce_thurston.specs.Indices.{index_of, HasIndex, row_between, rows_of_orbit}
+use Rattle.ce_thurston.specs.Indices.{index_of, HasIndex, rows_of_orbit}
 use Rattle.ce_thurston.proofs.Images.{ArePlaces}
 use Rattle.ce_thurston.proofs.Indexed.{images_indexed, row-at, length-rows}
 use Rattle.ce_thurston.proofs.PairWalks.{images-one}

@@ -1,5 +1,5 @@
 -- What is true of the rows of an orbit.
-use Rattle.std.proofs.Common.{◌≡◌, ◌<◌, ℕ, length, get_or, subst, sym, ap, Result, Ok, Err, arith, slice_index}
+use Rattle.std.proofs.Common.{◌≡◌, ◌<◌, ℕ, length, get_or, subst, sym, Result, Ok, Err, slice_index}
 use Rattle.std.specs.Prelude.{IfOk}
 use Rattle.std.specs.List.{AllZip}
 use Rattle.ce_rows.specs.Rows.{ScaledRows, successors_in, targets_of, walks_from, all_walks}

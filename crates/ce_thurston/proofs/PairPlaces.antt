@@ -1,5 +1,5 @@
 -- The places of the pairs by their indices.
-use Rattle.std.proofs.Common.{◌≡◌, ◌≢◌, ◌<◌, ◌==◌, ◌∙◌, ℕ, Bool, true, false, List, [], ◌∷◌, Some, length, map, get_or, refl, sym, ap, subst, arith}
+use Rattle.std.proofs.Common.{◌≡◌, ◌≢◌, ◌<◌, ◌==◌, ◌∙◌, ℕ, Bool, true, false, Some, length, map, get_or, refl, sym, ap, arith}
 use Rattle.std.specs.List.{slice_get}
 use Rattle.std.proofs.lemmas.Bool.Decides.{nat_tests}
 use Rattle.std.proofs.lemmas.List.{length-map, map-id}
@@ -8,8 +8,7 @@ use Rattle.ce_orbit.specs.Orbit.{ForwardOrbit}
 use Rattle.ce_thurston.specs.Indices.{index_of, row_between, place_pairs, pair_places, rows_of_orbit}
 use Rattle.ce_thurston.proofs.Indexed.{length-rows}
 use Rattle.ce_thurston.proofs.PlacePairs.{get_or-map-place_pairs}
-use Rattle.ce_thurston.proofs.Triangle.{pair_count}
-use Rattle.ce_thurston.proofs.Listed.{HasPlaces, places_of_index}
+use Rattle.ce_thurston.proofs.Listed.{places_of_index}
 
 length_by : (t : Bool) (o : ForwardOrbit) → (o.angle.den == 1) ≡ t → length (pair_places o) ≡ length (rows_of_orbit o)
 length_by true o e = rw e refl

@@ -1,5 +1,5 @@
 -- Walks on pairs.
-use Rattle.std.proofs.Common.{◌≡◌, ◌+◌, ◌∙◌, ℕ, zero, suc, Bool, true, false, cond, List, [], ◌∷◌, refl, sym, ap, arith}
+use Rattle.std.proofs.Common.{◌≡◌, ◌+◌, ◌∙◌, ℕ, zero, suc, Bool, true, false, [], ◌∷◌, refl, sym, ap, arith}
 use Rattle.std.specs.Prelude.{sum_by}
 use Rattle.ce_angle.specs.Fraction.{Fraction}
 use Rattle.ce_orbit.specs.Halves.{is_separated}

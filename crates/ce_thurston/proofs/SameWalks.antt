@@ -1,26 +1,24 @@
 -- The walks of the rows are those of the pairs.
-use Rattle.std.proofs.Common.{◌≡◌, ◌≢◌, ◌<◌, ◌≤◌, ◌+◌, ◌-◌, ◌*◌, ◌%◌, ◌==◌, ◌∙◌, ◌⊎◌, inl, inr, ℕ, zero, suc, Bool, true, false, cond, List, [], ◌∷◌, ◌++◌, length, map, get_or, take, refl, sym, ap, subst, arith, add-one, add-zero}
+use Rattle.std.proofs.Common.{◌≡◌, ◌≢◌, ◌<◌, ◌≤◌, ◌==◌, ◌∙◌, ◌⊎◌, inl, inr, ℕ, zero, suc, true, List, [], ◌∷◌, length, get_or, refl, sym, ap, arith}
 use Rattle.std.specs.Prelude.{sum_by}
-use Rattle.std.specs.List.{AllZip, range_with_len}
+use Rattle.std.specs.List.{AllZip}
 use Rattle.std.proofs.lemmas.Bool.{cases_lt, cases_order}
 use Rattle.std.proofs.lemmas.Bool.Decides.{nat_tests}
-use Rattle.std.proofs.lemmas.List.Sums.{sum_by-cons, sum_by-append, sum_by_push}
+use Rattle.std.proofs.lemmas.List.Sums.{sum_by-cons}
 use Rattle.std.proofs.Math.Nat.{zero-mod}
-use Rattle.ce_rows.specs.Rows.{row_at, successors_in, targets_of, walks_from, all_walks}
-use Rattle.ce_rows.specs.declared.row.Row.{Row}
-use Rattle.ce_rows.specs.declared.row.Row.TheVariants.{One, Two}
-use Rattle.ce_rows.specs.Walks.{walks, total_walks}
+use Rattle.ce_rows.specs.Rows.{targets_of, walks_from}
+use Rattle.ce_rows.specs.declared.row.Row.TheVariants.{One}
+use Rattle.ce_rows.specs.Walks.{walks}
 use Rattle.ce_angle.specs.Fraction.{Fraction}
-use Rattle.ce_orbit.specs.Halves.{is_separated}
-use Rattle.ce_orbit.specs.Orbit.{ForwardOrbit, IsForwardOrbit, doubled, next_of}
+use Rattle.ce_orbit.specs.Orbit.{ForwardOrbit, IsForwardOrbit, doubled}
 use Rattle.ce_orbit.proofs.Ends.{end-together}
 use Rattle.ce_orbit.proofs.Next.{place-below, place-apart}
-use Rattle.ce_thurston.specs.Pairs.{images, pairs_among, pairs_of, pair_walks}
-use Rattle.ce_thurston.specs.Indices.{index_of, index_between, HasIndex, row_between, rows_of_orbit}
+use Rattle.ce_thurston.specs.Pairs.{images}
+use Rattle.ce_thurston.specs.Indices.{index_of, index_between, HasIndex, rows_of_orbit}
 use Rattle.ce_thurston.proofs.Images.{ArePlaces}
-use Rattle.ce_thurston.proofs.Indexed.{images_indexed, row-at, length-rows, not_zero}
+use Rattle.ce_thurston.proofs.Indexed.{images_indexed, row-at}
 use Rattle.ce_thurston.proofs.PairWalks.{walks-swap, walks-one}
-use Rattle.ce_thurston.proofs.Triangle.{pair_count, pair_count-suc, between-lower, between-upper}
+use Rattle.ce_thurston.proofs.Triangle.{between-lower, between-upper}
 
 -- Equal terms have equal sums.
 sum_by-zip : {X Y : Type 0} (R : X → Y → Type 0) (f : X → ℕ) (g : Y → ℕ) → ((x : X) (y : Y) → R x y → f x ≡ g y) → (xs : List X) (ys : List Y) → AllZip R xs ys → sum_by f xs ≡ sum_by g ys

@@ -1,5 +1,5 @@
 -- The walks from all rows are as many as those from all pairs.
-use Rattle.std.proofs.Common.{◌≡◌, ◌≢◌, ◌<◌, ◌≤◌, ◌+◌, ◌-◌, ◌*◌, ◌==◌, ◌∙◌, ℕ, zero, suc, Bool, true, false, cond, List, [], ◌∷◌, ◌++◌, length, map, get_or, take, refl, sym, ap, subst, arith, add-one, add-zero, zero-add, add_assoc}
+use Rattle.std.proofs.Common.{◌≡◌, ◌≢◌, ◌<◌, ◌≤◌, ◌+◌, ◌==◌, ◌∙◌, ℕ, zero, suc, Bool, true, false, List, [], ◌∷◌, ◌++◌, length, map, get_or, take, refl, sym, ap, arith, add-one, add-zero, zero-add}
 use Rattle.std.specs.Prelude.{sum_by}
 use Rattle.std.specs.List.{range_with_len}
 use Rattle.std.proofs.lemmas.Bool.{false≢true, eqb-true, eq-eqb}
@@ -9,11 +9,10 @@ use Rattle.std.proofs.lemmas.List.{take_more, map-append}
 use Rattle.std.proofs.Math.Seq.{take-length}
 use Rattle.std.proofs.lemmas.List.Sums.{sum_by-cons, sum_by-append, sum_by_push, sum_by_more}
 use Rattle.ce_rows.specs.Rows.{walks_from, all_walks}
-use Rattle.ce_rows.specs.Walks.{walks, total_walks}
+use Rattle.ce_rows.specs.Walks.{walks}
 use Rattle.ce_orbit.specs.Orbit.{ForwardOrbit, IsForwardOrbit}
-use Rattle.ce_thurston.specs.Pairs.{images, pairs_among, pairs_of, pair_walks}
-use Rattle.ce_thurston.specs.Indices.{index_of, HasIndex, rows_of_orbit}
-use Rattle.ce_thurston.proofs.Images.{ArePlaces}
+use Rattle.ce_thurston.specs.Pairs.{images, pairs_among, pair_walks}
+use Rattle.ce_thurston.specs.Indices.{index_of, rows_of_orbit}
 use Rattle.ce_thurston.proofs.Indexed.{length-rows}
 use Rattle.ce_thurston.proofs.SameWalks.{same_at, zero_rows, zero_pairs}
 use Rattle.ce_thurston.proofs.Triangle.{pair_count, pair_count-suc, between-lower}

@@ -1,14 +1,13 @@
 -- What words ask for: one thing, and one alone.
 use Rattle.std.proofs.Common.{◌≡◌, ◌⊎◌, ◌∙◌, inl, inr, ℕ, Bool, true, false, List, [], ◌∷◌, Result, Ok, Err, refl, sym, ap, subst, arith}
-use Rattle.std.specs.Prelude.{codes}
 use Rattle.std.specs.Str.{bytes_eq}
 use Rattle.std.proofs.lemmas.Bool.{false≢true}
 use Rattle.std.proofs.lemmas.Slice.Eq.{bytes_eq-Decides}
-use Rattle.ce_angle.specs.Fraction.{Fraction, IsAngle}
+use Rattle.ce_angle.specs.Fraction.{Fraction}
 use Rattle.ce_angle.specs.Typed.{angle_of_text}
 use Rattle.ce_angle.proofs.Unique.{text_read}
 use Rattle.ce_angle.specs.declared.angle.AngleError.{AngleError}
-use Rattle.ce_orbit.specs.Orbit.{HasOrbitWithin, HasOrbitAbove}
+use Rattle.ce_orbit.specs.Orbit.{HasOrbitAbove}
 use Rattle.ce_orbit.proofs.Unique.{longer_is}
 use Rattle.ce_orbit.proofs.Exists.{within_or_above}
 use Rattle.core_entropy.specs.Words.{name_of, Asks, AsksNothing, AsksFlawed, AsksAngle, AsksTooLong, AsksOrbit}

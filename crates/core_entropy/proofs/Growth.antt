@@ -1,5 +1,5 @@
 -- The least and the greatest row sum enclose the growth rate of the walks. Source: [HornJohnson], chapter 8.
-use Rattle.std.proofs.Common.{◌≡◌, ◌<◌, ◌≤◌, ◌+◌, ◌*◌, ◌^◌, ◌∙◌, ℕ, zero, suc, List, [], ◌∷◌, length, get_or, refl, sym, ap, subst, arith, zero-add}
+use Rattle.std.proofs.Common.{◌<◌, ◌≤◌, ◌+◌, ◌*◌, ◌^◌, ◌∙◌, ℕ, zero, suc, List, [], ◌∷◌, length, sym, ap, subst, arith, zero-add}
 use Rattle.std.specs.Prelude.{All, sum_by}
 use Rattle.std.specs.List.{range_with_len}
 use Rattle.std.proofs.lemmas.List.Elements.{All-head, All-tail, All-weaker, All-from_get_or}
@@ -9,8 +9,8 @@ use Rattle.std.proofs.Math.Nat.{mul-le-mul_left, mul-le-mul_right, one-mul, pow-
 use Rattle.std.proofs.lemmas.Nat.{mul-pow}
 use Rattle.ce_rows.specs.declared.row.Row.{Row}
 use Rattle.ce_rows.specs.declared.row.Row.TheVariants.{One}
-use Rattle.ce_rows.specs.Growth.{IsGrowthLowerBound, IsGrowthUpperBound, Encloses}
-use Rattle.ce_rows.specs.Rows.{ScaledRows, AreRows, AreScaledRows, EnclosesRows, HasTargetsBelow, row_at, successors_in, targets_of, walks_from, all_walks}
+use Rattle.ce_rows.specs.Growth.{IsGrowthLowerBound, IsGrowthUpperBound}
+use Rattle.ce_rows.specs.Rows.{ScaledRows, AreRows, AreScaledRows, EnclosesRows, successors_in, walks_from, all_walks}
 use Rattle.core_entropy.specs.Bounds.{IsLeast, IsGreatest, successor_count}
 
 -- A sum is at least so many times what its terms are at least.

@@ -1,14 +1,11 @@
 -- The line of an angle, from what is known of its orbit, rows and bounds.
-use Rattle.std.proofs.Common.{◌≡◌, ◌≤◌, ◌+◌, ◌*◌, ◌^◌, ℕ, List, length, refl, sym, ap, subst, arith}
-use Rattle.std.specs.Prelude.{All}
-use Rattle.std.specs.List.{Any}
+use Rattle.std.proofs.Common.{◌≡◌, ◌≤◌, ◌+◌, ◌*◌, ◌^◌, ℕ, List, ap, subst}
 use Rattle.ce_angle.specs.Fraction.{Fraction}
 use Rattle.ce_orbit.specs.Orbit.{ForwardOrbit, IsForwardOrbit}
 use Rattle.ce_rows.specs.Growth.{Encloses, IsGrowthLowerBound, IsGrowthUpperBound}
-use Rattle.ce_rows.specs.Rows.{ScaledRows, EnclosesRows, all_walks, targets_of}
-use Rattle.ce_rows.specs.declared.row.Row.{Row}
+use Rattle.ce_rows.specs.Rows.{ScaledRows, EnclosesRows, all_walks}
 use Rattle.ce_rows.specs.declared.interval.Interval.{Interval}
-use Rattle.ce_thurston.specs.Pairs.{images, pair_walks}
+use Rattle.ce_thurston.specs.Pairs.{pair_walks}
 use Rattle.ce_thurston.specs.Indices.{rows_of_orbit}
 use Rattle.ce_thurston.proofs.Listed.{pairs_from_rows, pair_from_row}
 use Rattle.core_entropy.specs.Answer.{IsAngleLine, line_of}

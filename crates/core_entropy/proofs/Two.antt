@@ -1,5 +1,5 @@
 -- A list of two words.
-use Rattle.std.proofs.Common.{◌≡◌, ◌≢◌, ◌<◌, ◌≤◌, ◌∙◌, ℕ, zero, suc, Bool, true, false, not, List, [], ◌∷◌, length, map, get_or, refl, sym, ap, arith, String, Global, string_bytes}
+use Rattle.std.proofs.Common.{◌≡◌, ◌≢◌, ◌<◌, ◌≤◌, ◌∙◌, List, [], ◌∷◌, length, map, get_or, sym, ap, arith, String, Global, string_bytes}
 use Rattle.core_entropy.specs.Words.{name_of, Asks, AsksNothing}
 use Rattle.core_entropy.specs.declared.command.Task.{Task}
 

@@ -1,5 +1,5 @@
 -- What a command writes. Source: this project's choice.
-use Rattle.std.specs.Prelude.{◌≡◌, ◌⊎◌, ℕ, List, [], Option}
+use Rattle.std.specs.Prelude.{◌⊎◌, ℕ, List, [], Option}
 use Rattle.ce_port.specs.Sink.{GrewBy, Rose}
 use Rattle.ce_port.specs.WriteAll.{GrewByPrefix}
 use Rattle.core_entropy.specs.Task.{IsAnswer}

@@ -58,9 +58,9 @@ fn push_angle(alloc: Global, text: &mut String, orbit: &Orbit, i: u32) -> Result
     ensures { OnOk result (string_bytes text.new
         ≡ string_bytes text.old ++ 32 ∷ place_text orbit.now (slice_index orbit.now.places i)) }
 {
-    let angle = angle_at(orbit, i);
-    let num = angle.num();
-    let den = angle.den();
+    let lowest = angle_at(orbit, i);
+    let num = lowest.num();
+    let den = lowest.den();
     let piece = format!(in alloc; " {num}/{den}")?;
     text.push_str(piece.as_str())?;
     Ok(())

@@ -1,4 +1,4 @@
-use Rattle.std.proofs.Common.{◌≡◌, ◌≢◌, ◌+◌, ◌≤◌, ◌∙◌, ℕ, suc, length, map, ap, sym, arith, add-one}
+use Rattle.std.proofs.Common.{◌≡◌, ◌≢◌, ◌∙◌, ℕ, suc, length, map, ap, arith, add-one}
 use Rattle.ce_angle.specs.Fraction.{Fraction}
 use Rattle.ce_rows.specs.declared.row.Row.{Row}
 use Rattle.ce_thurston.specs.Indices.{row_between, place_pairs}

@@ -1,4 +1,4 @@
-use Rattle.std.proofs.Common.{◌≡◌, ◌∙◌, ℕ, length, ap, arith}
+use Rattle.std.proofs.Common.{◌∙◌, ℕ, length, ap, arith}
 use Rattle.ce_rows.specs.Maker.{Making}
 use Rattle.ce_rows.specs.declared.row.Row.{Row}
 use Rattle.ce_thurston.specs.Indices.{row_between}

@@ -1,4 +1,4 @@
-use Rattle.std.proofs.Common.{◌≡◌, ◌<◌, ◌+◌, ◌++◌, ◌∷◌, [], ◌∙◌, length, take, ap, arith}
+use Rattle.std.proofs.Common.{◌<◌, ◌∙◌, length, take, ap, arith}
 use Rattle.std.proofs.lemmas.List.{take_more}
 use Rattle.ce_rows.specs.Rows.{row_at}
 use Rattle.ce_rows.specs.declared.row.Row.TheVariants.{One}

@@ -1,7 +1,7 @@
 use Rattle.std.proofs.Common.{◌≡◌, ◌∙◌, sym, ap, string_bytes}
 use Rattle.ce_angle.specs.Typed.{angle_of_text}
 use Rattle.core_entropy.specs.Words.{name_of}
-use Rattle.core_entropy.proofs.Two.{asks_from, asks_nothing}
+use Rattle.core_entropy.proofs.Two.{asks_from}
 use Rattle.core_entropy.proofs.command.asked_command.Goals as goal
 
 pub returns-in-Ok-clause-command : goal.returns-in-Ok-clause-command

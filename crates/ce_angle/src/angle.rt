@@ -17,8 +17,8 @@ pub enum AngleError {
     DenominatorTooLarge,
 }
 
-/// A rational external angle: a fraction of a turn in lowest terms, from 0 up to but without 1, whose denominator
-/// is at most 2^31.
+/// A rational external angle: a fraction of a turn in lowest terms, from 0 up to but without 1,
+/// whose denominator is at most 2^31.
 #[derive(Clone, Copy, Debug, PartialEq, Eq)]
 pub struct Angle {
     num: u32,
@@ -77,8 +77,9 @@ impl Angle {
         })
     }
 
-    /// The angle that a text types, as `1/4`: digits, one slash and digits. Each number has 1 to 10 digits and no
-    /// leading zero, except that `0` alone is a number. A fraction that is not in lowest terms is reduced.
+    /// The angle that a text types, as `1/4`: digits, one slash and digits. Each number has 1 to 10
+    /// digits and no leading zero, except that `0` alone is a number. A fraction that is not in
+    /// lowest terms is reduced.
     pub fn parse(text: &[u8]) -> Result<Self, AngleError>
         ensures value { result ≡ angle_of_text text.now }
         ensures lowest { IfOk result IsAngle }

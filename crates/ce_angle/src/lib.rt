@@ -1,7 +1,7 @@
 // The rational external angles: fractions of a turn in lowest terms, from 0 up to but without 1.
 //
-// Text or two numbers come in, and an `Angle` or the first reason why there is none goes out. The main fact is
-// `Angle::parse`'s: its answer is a function of the text, `angle_of_text`.
+// Text or two numbers come in, and an `Angle` or the first reason why there is none goes out. The
+// main fact is `Angle::parse`'s: its answer is a function of the text, `angle_of_text`.
 #![tactic(auto)]
 
 mod angle;

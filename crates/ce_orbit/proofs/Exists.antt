@@ -1,11 +1,15 @@
 -- Each angle has an orbit, of at most so many angles or of more.
-use Rattle.std.proofs.Common.{◌≡◌, ◌≢◌, ◌<◌, ◌⊎◌, ◌∙◌, inl, inr, ℕ, zero, suc, Bool, true, false, map, refl, sym, ap, subst, arith, add-one}
+use Rattle.std.proofs.Common.{◌≡◌, ◌≢◌, ◌<◌, ◌≤◌, ◌+◌, ◌⊎◌, false, length, get_or, List, ◌∙◌, inl, inr, ℕ, zero, suc, Bool, true, map, refl, sym, ap, subst, arith, add-one}
 use Rattle.std.specs.List.{range_with_len}
 use Rattle.std.proofs.lemmas.Bool.{cases_lt, false≢true, eqb-true, eq-eqb}
 use Rattle.std.proofs.Math.Dec.{eqb}
 use Rattle.std.proofs.lemmas.List.FromFn.{length-map-range_with_len, get_or-map-range_with_len}
+use Rattle.std.proofs.lemmas.Map.Keys.{IsDistinct-from_apart}
+use Rattle.std.proofs.lemmas.Map.Steps.{length-le_from_distinct_below}
+use Rattle.std.proofs.lemmas.Map.Views.{Contains-from_any}
 use Rattle.ce_angle.specs.Fraction.{Fraction, IsAngle}
 use Rattle.ce_orbit.specs.Orbit.{HasOrbitWithin, HasOrbitAbove, numerator_at, AreDistinct}
+use Rattle.ce_orbit.proofs.Next.{numerator-below}
 
 -- a number among the first values of a sequence, or at none of them
 pub record IsFound (f : ℕ → ℕ) (x n : ℕ) : Type 0 where
@@ -71,3 +75,36 @@ short_or_long angle (suc n) h = step angle n h (short_or_long angle n h)
 
 pub within_or_above : (angle : Fraction) (n : ℕ) → IsAngle angle → HasOrbitWithin n angle ⊎ HasOrbitAbove n angle
 within_or_above angle n h = rw (add-one n) (short_or_long angle n h)
+
+too_many : (angle : Fraction) → IsAngle angle → AreDistinct angle (angle.den + 1) → ⊥
+too_many angle h distinct =
+    let f : ℕ → ℕ = λ k. numerator_at angle k in
+    let n = angle.den + 1 in
+    let xs = map f (range_with_len 0 n) in
+    let long = length-map-range_with_len f 0 n in
+    let at : (k d : ℕ) → k < n → get_or xs k d ≡ f k = λ k d within. get_or-map-range_with_len f 0 n k k d within (omega arith) in
+    let apart = IsDistinct-from_apart eqb xs (λ i j d order within.
+    let left = at i d (omega arith) in
+    let right = at j d (omega arith) in
+    not_equal (get_or xs i d) (get_or xs j d) (λ same. distinct i j order (omega arith) (sym left ∙ same ∙ right))) in
+    let few = length-le_from_distinct_below xs angle.den apart (λ q found.
+    let here = Contains-from_any {eq = eqb} (λ x y e. eqb-true x y e) q xs found in
+    let below = numerator-below angle here.0 h in
+    let value = at here.0 q (let within = here.1 in omega arith) in
+    let same = here.2 in
+    omega arith) in
+    omega arith
+  where
+    not_equal : (a b : ℕ) → (a ≡ b → ⊥) → eqb a b ≡ false
+    not_equal a b apart = by_test (eqb a b) (λ e. apart (eqb-true a b e))
+      where
+        by_test : (t : Bool) → (t ≡ true → ⊥) → t ≡ false
+        by_test true none = absurd (none refl)
+        by_test false none = refl
+
+-- The numerators of an orbit are below the denominator, so at most as many are different.
+pub within_denominator : (angle : Fraction) → IsAngle angle → HasOrbitWithin angle.den angle
+within_denominator angle h = elim (within_or_above angle angle.den h) [
+  | inl short ↦ short
+  | inr distinct ↦ absurd (too_many angle h distinct)
+]

@@ -39,7 +39,7 @@ pub next-doubles : (o : ForwardOrbit) (i : ℕ) → IsForwardOrbit o → i < len
 next-doubles o i h here = (next_is o i h here).doubles
 
 -- the numerator at a place is below the denominator
-numerator-below : (angle : Fraction) (k : ℕ) → IsAngle angle → numerator_at angle k < angle.den
+pub numerator-below : (angle : Fraction) (k : ℕ) → IsAngle angle → numerator_at angle k < angle.den
 numerator-below angle zero h = h.below_one
 numerator-below angle (suc k) h = let some = h.below_one in mod-lt (2 * numerator_at angle k) {m = angle.den} (omega arith)
 

@@ -1,5 +1,6 @@
--- The forward orbit of an angle under the doubling map. Sources: [Gao2020], [Tiozzo2016].
--- All angles of an orbit are written over the denominator of the first, and so by their numerators alone.
+-- The forward orbit of an angle under the doubling map. Sources: [Gao2020], [Tiozzo2016]. All
+-- angles of an orbit are written over the denominator of the first, and so by their numerators
+-- alone.
 use Rattle.std.specs.Prelude.{◌≡◌, ◌≢◌, ℕ, zero, suc, ◌+◌, ◌-◌, ◌*◌, ◌%◌, ◌<◌, ◌≤◌, List, length, slice_index, if◌then◌else◌, nat_lt}
 use Rattle.ce_angle.specs.Fraction.{Fraction, IsAngle}
 
@@ -16,11 +17,13 @@ numerator_at angle (suc k) = doubled angle (numerator_at angle k)
 abbrev pub AreDistinct : Fraction → ℕ → Type 0
 AreDistinct angle count = (i j : ℕ) → i < j → j < count → numerator_at angle i ≢ numerator_at angle j
 
--- The orbit of an angle has more than so many angles: as many and one more, from the angle on, are all different.
+-- The orbit of an angle has more than so many angles: as many and one more, from the angle on, are
+-- all different.
 abbrev pub HasOrbitAbove : ℕ → Fraction → Type 0
 HasOrbitAbove count angle = AreDistinct angle (count + 1)
 
--- an angle, the numerators of its orbit by their places, and the place that the first repeat comes back to
+-- an angle, the numerators of its orbit by their places, and the place that the first repeat comes
+-- back to
 pub record ForwardOrbit : Type 0 where
   pub angle : Fraction
   pub places : List ℕ

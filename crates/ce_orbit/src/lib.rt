@@ -1,9 +1,10 @@
 // The forward orbit of an angle under angle doubling, up to its first repeat.
 //
-// An `Angle` comes in, and an `Orbit` of at most 128 places goes out. Contracts see an orbit as its angle, the list of
-// its numerators over the angle's denominator, and the place that the repeat comes back to. The main fact is
-// `Orbit::of`'s: the places are the forward orbit (specs/Orbit.antt). The closed half-circles on both sides of the
-// critical diameter stand in specs/Halves.antt, the kneading sequence in specs/Symbols.antt.
+// An `Angle` comes in, and an `Orbit` of at most 128 places goes out. Contracts see an orbit as its
+// angle, the list of its numerators over the angle's denominator, and the place that the repeat
+// comes back to. The main fact is `Orbit::of`'s: the places are the forward orbit
+// (specs/Orbit.antt). The closed half-circles on both sides of the critical diameter stand in
+// specs/Halves.antt, the kneading sequence in specs/Symbols.antt.
 #![tactic(auto)]
 
 mod laws;
@@ -14,7 +15,7 @@ mod tests;
 
 pub use laws::{
     at_most_one_end, ends_are_in_both_halves, long_orbits_are_long, orbits_are_short_or_long,
-    orbits_are_unique, separated_symbols_are_opposite,
+    orbits_are_unique, orbits_exist, separated_symbols_are_opposite,
 };
 pub use orbit::{Orbit, OrbitTooLong};
 pub use symbol::Symbol;

@@ -1,5 +1,6 @@
 // The orbit of an angle.
-ghost use Rattle.std.specs.Prelude.{◌≡◌, ◌<◌, ◌≤◌, ◌↔◌, ◌+◌, ◌*◌, ◌%◌, IsTrue, not, ◌||◌, length, slice_index, OnErr, IfOk, IfSome, IfNone};
+ghost use Rattle.std.specs.Prelude.{◌≡◌, ◌<◌, ◌≤◌, ◌↔◌, ◌+◌, ◌*◌, ◌%◌, ◌||◌, not, IsTrue};
+ghost use Rattle.std.specs.Prelude.{length, slice_index, OnErr, IfOk, IfSome, IfNone};
 ghost use Rattle.ce_orbit.specs.Search.{IsPlaceOf, IsNowhere};
 
 use crate::Symbol;
@@ -12,8 +13,9 @@ const MOST_PLACES: usize = 128;
 #[derive(Clone, Copy, Debug, PartialEq, Eq)]
 pub struct OrbitTooLong;
 
-/// The forward orbit of an angle under angle doubling, up to its first repeat. Its places are numbered from 0, which
-/// is the angle itself; at each place stands a numerator over the angle's denominator.
+/// The forward orbit of an angle under angle doubling, up to its first repeat. Its places are
+/// numbered from 0, which is the angle itself; at each place stands a numerator over the angle's
+/// denominator.
 #[derive(Drop)]
 pub struct Orbit {
     angle: Angle,
@@ -51,8 +53,8 @@ fn doubled(x: u32, den: u32) -> u32
 }
 
 impl Orbit {
-    ghost use Rattle.ce_angle.specs.Fraction.{IsAngle};
-    ghost use Rattle.ce_orbit.specs.Orbit.{IsForwardOrbit, HasOrbitAbove, next_of, numerator_at, period_of, doubled};
+    ghost use Rattle.ce_orbit.specs.Orbit.{IsForwardOrbit, HasOrbitAbove};
+    ghost use Rattle.ce_orbit.specs.Orbit.{doubled, next_of, numerator_at, period_of};
     ghost use Rattle.ce_orbit.specs.Halves.{in_first_half, in_second_half, is_separated};
     ghost use Rattle.ce_orbit.specs.Symbols.{symbol_of, AreOpposite};
 
@@ -109,7 +111,8 @@ impl Orbit {
         self.numerators[i as usize]
     }
 
-    /// The place of the doubled angle: the next one, and after the last one the place that the repeat comes back to.
+    /// The place of the doubled angle: the next one, and after the last one the place that the
+    /// repeat comes back to.
     pub fn next(&self, i: u32) -> u32
         requires { i < length self.now.places }
         ensures value { result ≡ next_of self.now i }

@@ -1,8 +1,9 @@
-// Where text goes. A `Sink` takes bytes a piece at a time and counts its faults; `write_all` hands it a whole text.
+// Where text goes. A `Sink` takes bytes a piece at a time and counts its faults; `write_all` hands
+// it a whole text.
 //
-// The main fact is `write_all`'s: a sink that tells its bytes got the whole text, or a prefix of it, and then the
-// count of faults rose. `MemSink` and `SureSink` keep what they took, for callers that want to see it and for tests
-// of failing writes; `StdSink` is the edge to the real streams.
+// The main fact is `write_all`'s: a sink that tells its bytes got the whole text, or a prefix of
+// it, and then the count of faults rose. `MemSink` and `SureSink` keep what they took, for callers
+// that want to see it and for tests of failing writes; `StdSink` is the edge to the real streams.
 #![tactic(auto)]
 
 mod mem_sink;

@@ -14,8 +14,8 @@ pub enum WriteEnd {
     Failed,
 }
 
-/// Writes all bytes, in as many pieces as the sink wants, and stops at the first fault. Takes no memory, and makes
-/// no call for an empty text.
+/// Writes all bytes, in as many pieces as the sink wants, and stops at the first fault. Takes no
+/// memory, and makes no call for an empty text.
 pub fn write_all<O: Sink>(out: &mut O, bytes: &[u8]) -> WriteEnd
     ensures done { result ≡ WriteEnd.Done → GrewBy (O.taken out.old) (O.taken out.new) bytes.now }
     ensures part { result ≡ WriteEnd.Failed → GrewByPrefix (O.taken out.old) (O.taken out.new) bytes.now }

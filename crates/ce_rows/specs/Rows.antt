@@ -1,4 +1,5 @@
--- Lists of rows as graphs: the vertices are the indices of the rows. Source: [HornJohnson], chapter 8.
+-- Lists of rows as graphs: the vertices are the indices of the rows. Source: [HornJohnson], chapter
+-- 8.
 use Rattle.std.specs.Prelude.{ℕ, ◌<◌, ◌≤◌, List, [], ◌∷◌, length, All, slice_index_or}
 use Rattle.std.specs.List.{range_with_len}
 use Rattle.ce_rows.specs.Growth.{Encloses}

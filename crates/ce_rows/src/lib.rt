@@ -1,8 +1,10 @@
-// Rows of a transition matrix, as lists of successors, with the scale at which their bounds are written.
+// Rows of a transition matrix, as lists of successors, with the scale at which their bounds are
+// written.
 //
-// Rows are pushed one after another into a `RowsMaker`, which hands out `Rows`. Contracts see `Rows` as the list of
-// rows and the exponent of the scale. Here stand the definitions that all bounds speak of: walks of any graph and
-// their total (specs/Walks.antt), and what encloses their growth rate (specs/Growth.antt).
+// Rows are pushed one after another into a `RowsMaker`, which hands out `Rows`. Contracts see
+// `Rows` as the list of rows and the exponent of the scale. Here stand the definitions that all
+// bounds speak of: walks of any graph and their total (specs/Walks.antt), and what encloses their
+// growth rate (specs/Growth.antt).
 #![tactic(auto)]
 
 mod interval;

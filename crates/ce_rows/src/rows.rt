@@ -4,7 +4,8 @@ ghost use Rattle.std.specs.Prelude.{◌≡◌, ◌<◌, length};
 use crate::{Row, Scale};
 use std::marker::Model;
 
-/// The rows of a transition matrix, by their indices, and the scale of their bounds: 1 to 8,128 rows.
+/// The rows of a transition matrix, by their indices, and the scale of their bounds: 1 to 8,128
+/// rows.
 #[derive(Drop)]
 pub struct Rows {
     rows: Vec<Row>,

@@ -10,3 +10,4 @@ pub mod OrbitRows
 pub mod Listed
 mod PairList
 pub mod PairPlaces
+mod Once

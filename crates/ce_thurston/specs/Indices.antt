@@ -1,4 +1,5 @@
--- The rows of an orbit: the images of each pair by their indices. Source: this project's choice of the indices.
+-- The rows of an orbit: the images of each pair by their indices. Source: this project's choice of
+-- the indices.
 use Rattle.std.specs.Prelude.{◌≡◌, ◌<◌, ℕ, zero, suc, ◌+◌, ◌-◌, ◌*◌, ◌/◌, List, [], ◌∷◌, ◌++◌, length, map, slice_index, if◌then◌else◌, ◌==◌, nat_lt}
 use Rattle.std.specs.List.{range_with_len}
 use Rattle.ce_rows.specs.declared.row.Row.{Row}
@@ -37,7 +38,8 @@ abbrev pub place_pairs : ℕ → List (ℕ × ℕ)
 place_pairs zero = []
 place_pairs (suc j) = place_pairs j ++ map (λ i. (i, j)) (range_with_len 0 j)
 
--- the places of each pair of an orbit in the order of the indices; the angle 0 has its one place twice
+-- the places of each pair of an orbit in the order of the indices; the angle 0 has its one place
+-- twice
 abbrev pub pair_places : ForwardOrbit → List (ℕ × ℕ)
 pair_places o = if o.angle.den == 1 then (0, 0) ∷ [] else place_pairs (length o.places)
 

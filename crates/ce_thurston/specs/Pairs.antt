@@ -1,13 +1,13 @@
 -- The pairs of an orbit and their images under Thurston's algorithm. Source: [Gao2020].
 -- A pair is written as two numerators over the angle's denominator, in either order.
-use Rattle.std.specs.Prelude.{◌≡◌, ℕ, List, [], ◌∷◌, ◌++◌, map, All, Contains, if◌then◌else◌, ◌==◌}
+use Rattle.std.specs.Prelude.{◌≡◌, ◌≢◌, ℕ, List, [], ◌∷◌, ◌++◌, map, All, Contains, if◌then◌else◌, ◌==◌}
 use Rattle.ce_angle.specs.Fraction.{Fraction}
 use Rattle.ce_orbit.specs.Halves.{is_separated}
 use Rattle.ce_orbit.specs.Orbit.{ForwardOrbit, doubled}
 use Rattle.ce_rows.specs.Walks.{total_walks}
 
--- A pair that is not separated has one image, the pair of the doubles. A separated pair has two: each double is
--- paired with the angle itself.
+-- A pair that is not separated has one image, the pair of the doubles. A separated pair has two:
+-- each double is paired with the angle itself.
 abbrev pub images : Fraction → ℕ × ℕ → List (ℕ × ℕ)
 images angle pair =
     if is_separated angle pair.0 pair.1
@@ -36,3 +36,7 @@ pub record IsPairOf (o : ForwardOrbit) (pair : ℕ × ℕ) : Type 0 where
 -- Each image of a pair is a pair.
 abbrev pub HasPairsForImages : ForwardOrbit → Type 0
 HasPairsForImages o = (pair : ℕ × ℕ) → IsPairOf o pair → All (IsPairOf o) (images o.angle pair)
+
+-- Two pairs are different, also where one is written in the other order.
+abbrev pub AreDifferent : ℕ × ℕ → ℕ × ℕ → Type 0
+AreDifferent pair other = (pair ≢ other) × (pair ≢ (other.1, other.0))

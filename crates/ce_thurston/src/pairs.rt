@@ -103,8 +103,9 @@ fn make_rows(alloc: Global, orbit: &Orbit) -> Result<Rows, NoMemory>
     Ok(maker.finish())
 }
 
-/// One row for each pair of the orbit, in the order of their indices, at the scale 2^32. A pair that the critical
-/// diameter separates has two successors; all others have one. The one pair of the angle 0 is its own successor.
+/// One row for each pair of the orbit, in the order of their indices, at the scale 2^32. A pair
+/// that the critical diameter separates has two successors; all others have one. The one pair of
+/// the angle 0 is its own successor.
 pub fn rows_of(alloc: Global, orbit: &Orbit) -> Result<Rows, NoMemory>
     ensures rows { IfOk result (λ rows. rows ≡ record { list = rows_of_orbit orbit.now; exponent = 32 }) }
 

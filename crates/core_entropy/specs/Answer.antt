@@ -1,4 +1,5 @@
--- The line that answers the words. Source: this project's choice; for the enclosure [Gao2020] and [HornJohnson].
+-- The line that answers the words. Source: this project's choice; for the enclosure [Gao2020] and
+-- [HornJohnson].
 use Rattle.std.specs.Prelude.{◌≡◌, ℕ, List, ◌++◌, codes, [], ◌∷◌}
 use Rattle.std.specs.Fmt.{decimal}
 use Rattle.ce_angle.specs.Fraction.{Fraction}
@@ -22,7 +23,8 @@ line_of angle interval =
     ended (codes "angle " ++ fraction_text angle
     ++ codes " low " ++ decimal interval.low ++ codes " high " ++ decimal interval.high)
 
--- A line is that of an angle: its interval encloses the growth rate of the walks on the pairs of the angle's orbit.
+-- A line is that of an angle: its interval encloses the growth rate of the walks on the pairs of
+-- the angle's orbit.
 pub record IsAngleLine (angle : Fraction) (line : List ℕ) : Type 0 where
   pub orbit : ForwardOrbit
   pub interval : Interval

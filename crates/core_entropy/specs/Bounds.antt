@@ -1,4 +1,5 @@
--- The bounds of the vector of ones: the least and the greatest row sum. Source: [HornJohnson], chapter 8.
+-- The bounds of the vector of ones: the least and the greatest row sum. Source: [HornJohnson],
+-- chapter 8.
 use Rattle.std.specs.Prelude.{◌≡◌, ℕ, ◌*◌, ◌^◌, ◌≤◌, List, length, All}
 use Rattle.std.specs.List.{Any}
 use Rattle.ce_angle.specs.Fraction.{Fraction}
@@ -33,7 +34,8 @@ pub record AreRowBounds (rows : ScaledRows) (interval : Interval) : Type 0 where
   pub low : IsLeast (row_sum rows.exponent) rows.list interval.low
   pub high : IsGreatest (row_sum rows.exponent) rows.list interval.high
 
--- The ends are 2^32 times the least and 2^32 times the greatest number of images of a pair of an orbit.
+-- The ends are 2^32 times the least and 2^32 times the greatest number of images of a pair of an
+-- orbit.
 pub record AreImageBounds (o : ForwardOrbit) (interval : Interval) : Type 0 where
   pub low : IsLeast (image_sum o.angle) (pairs_of o) interval.low
   pub high : IsGreatest (image_sum o.angle) (pairs_of o) interval.high

@@ -1,4 +1,5 @@
--- The text of an orbit with its kneading sequence and its transition matrix. Source: this project's choice.
+-- The text of an orbit with its kneading sequence and its transition matrix. Source: this project's
+-- choice.
 use Rattle.std.specs.Prelude.{◌≡◌, ℕ, List, ◌∷◌, ◌++◌, length, codes}
 use Rattle.std.specs.Fmt.{decimal}
 use Rattle.std.specs.List.{flat_map}

@@ -36,8 +36,8 @@ fn count_range(rows: &Rows) -> (u64, u64)
     (least, greatest)
 }
 
-/// The least and the greatest row sum, in units of the rows' scale. They are the Collatz-Wielandt bounds of the
-/// vector of ones.
+/// The least and the greatest row sum, in units of the rows' scale. They are the Collatz-Wielandt
+/// bounds of the vector of ones.
 pub fn bounds_of_ones(rows: &Rows) -> Interval
     ensures ends { AreRowBounds rows.now result }
     ensures encloses { EnclosesRows rows.now result.low result.high }

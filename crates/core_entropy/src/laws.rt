@@ -4,7 +4,8 @@ ghost use Rattle.ce_angle.specs.declared.angle.AngleError.{AngleError};
 ghost use Rattle.core_entropy.specs.Task.{IsAnswer};
 ghost use Rattle.core_entropy.specs.Words.{AsksNothing, AsksFlawed, AsksTooLong, AsksOrbit};
 
-/// Whatever the words are, they ask for nothing, for a flawed angle, for a too long orbit or for an orbit.
+/// Whatever the words are, they ask for nothing, for a flawed angle, for a too long orbit or for an
+/// orbit.
 pub fn words_have_a_cause()
     ensures { (words : List (List ℕ)) → AsksNothing words
         ⊎ ((flaw : AngleError) × AsksFlawed words flaw) ⊎ AsksTooLong words ⊎ AsksOrbit words }

@@ -1,8 +1,10 @@
-// The program: intervals that enclose the growth rate of Thurston's transition matrix of a rational external angle.
+// The program: intervals that enclose the growth rate of Thurston's transition matrix of a rational
+// external angle.
 //
-// Words come in, and one line goes out, or an error line. `run::run_command` is the whole program over any sinks; its
-// clauses say that the printed interval encloses (specs/Answer.antt) and which words end with which status
-// (specs/Status.antt). The way from words to line: command, angle, bounds, text, run.
+// Words come in, and one line goes out, or an error line. `run::run_command` is the whole program
+// over any sinks; its clauses say that the printed interval encloses (specs/Answer.antt) and which
+// words end with which status (specs/Status.antt). The way from words to line: command, angle,
+// bounds, text, run.
 #![tactic(auto)]
 
 mod angle;

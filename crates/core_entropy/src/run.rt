@@ -47,7 +47,8 @@ fn answer<O: Sink>(alloc: Global, words: &[String], out: &mut O) -> Status
     }
 }
 
-/// Writes the error line of a status to `err`, whose faults change nothing, and gives the status back.
+/// Writes the error line of a status to `err`, whose faults change nothing, and gives the status
+/// back.
 pub fn tell<E: Sink>(err: &mut E, status: Status) -> Status
     ensures same { result ≡ status }
     ensures line { WroteLine (error_line status) (E.taken err.old) (E.taken err.new)
@@ -58,16 +59,16 @@ pub fn tell<E: Sink>(err: &mut E, status: Status) -> Status
     status
 }
 
-/// Does what the words after the program's name ask for: writes the answer to `out` and gives its status, whose error
-/// line goes to `err`. Faults of `err` change no status.
+/// Does what the words after the program's name ask for: writes the answer to `out` and gives its
+/// status, whose error line goes to `err`. Faults of `err` change no status.
 pub fn run_command<O: Sink, E: Sink>(
     alloc: Global,
     words: &[String],
     out: &mut O,
     err: &mut E,
 ) -> Status
-    // The answer is the text of the task: each interval in it encloses the growth rate of the walks on the pairs of
-    // the typed angle, and an orbit is shown by a function of the angle.
+    // The answer is the text of the task: each interval in it encloses the growth rate of the walks
+    // on the pairs of the typed angle, and an orbit is shown by a function of the angle.
     ensures done { result ≡ Status.Done
         → WroteAnswer (map string_bytes words.now) (O.taken out.old) (O.taken out.new) }
 

@@ -1,11 +1,14 @@
 // The command `show`: the text of an orbit with its kneading sequence and its transition matrix.
-ghost use Rattle.std.specs.Prelude.{◌≡◌, ◌<◌, ◌++◌, ◌∷◌, IfOk, IfErr, OnOk, codes, length, slice_get, slice_index, string_bytes, Some};
+ghost use Rattle.std.specs.Prelude.{◌≡◌, ◌<◌, ◌++◌, ◌∷◌, Some, IfOk, IfErr, OnOk};
+ghost use Rattle.std.specs.Prelude.{codes, length, slice_get, slice_index, string_bytes};
 ghost use Rattle.std.specs.Fmt.{decimal};
 ghost use Rattle.ce_angle.specs.LowestTerms.{in_lowest_terms};
 ghost use Rattle.ce_orbit.specs.Orbit.{HasOrbitWithin, IsForwardOrbit};
 ghost use Rattle.ce_orbit.specs.Symbols.{symbol_of};
 ghost use Rattle.ce_thurston.specs.Indices.{index_of, pair_places, rows_of_orbit};
-ghost use Rattle.core_entropy.specs.Show.{IsShowText, angle_heading, cycle_line, orbit_line, place_text, row_line, rows_text, show_text, symbol_text, symbols_line};
+ghost use Rattle.core_entropy.specs.Show.{IsShowText, show_text, angle_heading, cycle_line};
+ghost use Rattle.core_entropy.specs.Show.{orbit_line, place_text, symbols_line, symbol_text};
+ghost use Rattle.core_entropy.specs.Show.{rows_text, row_line};
 ghost use Rattle.core_entropy.specs.Answer.{ended};
 ghost use Rattle.core_entropy.specs.Status.{NoText};
 
@@ -43,7 +46,8 @@ fn line_of_cycle(alloc: Global, orbit: &Orbit) -> Result<String, NoMemory>
 // The angle at a place.
 fn angle_at(orbit: &Orbit, i: u32) -> Angle
     requires { i < length orbit.now.places }
-    ensures { result ≡ in_lowest_terms (record { num = slice_index orbit.now.places i; den = orbit.now.angle.den }) }
+    ensures { result ≡ in_lowest_terms
+        (record { num = slice_index orbit.now.places i; den = orbit.now.angle.den }) }
 {
     let den = orbit.angle().den();
     match Angle::new(u64::from(orbit.place(i)), u64::from(den)) {
@@ -191,7 +195,8 @@ fn text_of_orbit(alloc: Global, orbit: &Orbit) -> Result<String, NoMemory>
     Ok(text)
 }
 
-/// The text that shows an angle's orbit, or why there is none: the orbit is too long, or memory was refused.
+/// The text that shows an angle's orbit, or why there is none: the orbit is too long, or memory was
+/// refused.
 pub fn show_of_angle(alloc: Global, angle: Angle) -> Result<String, Status>
     ensures text { IfOk result (λ text. IsShowText angle (string_bytes text)) }
     ensures orbit { IfOk result (λ _. HasOrbitWithin 128 angle) }

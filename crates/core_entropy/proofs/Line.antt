@@ -8,7 +8,7 @@ use Rattle.ce_rows.specs.declared.interval.Interval.{Interval}
 use Rattle.ce_thurston.specs.Pairs.{pair_walks}
 use Rattle.ce_thurston.specs.Indices.{rows_of_orbit}
 use Rattle.ce_thurston.proofs.Listed.{pairs_from_rows, pair_from_row}
-use Rattle.core_entropy.specs.Answer.{IsAngleLine, line_of}
+use Rattle.core_entropy.specs.AngleLine.{IsAngleLine, line_of}
 use Rattle.core_entropy.specs.Bounds.{AreRowBounds, AreImageBounds}
 
 -- The row bounds of an orbit's rows are the bounds of its pairs.

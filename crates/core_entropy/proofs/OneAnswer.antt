@@ -4,9 +4,9 @@ use Rattle.ce_angle.specs.Fraction.{Fraction}
 use Rattle.ce_orbit.specs.Orbit.{ForwardOrbit}
 use Rattle.ce_orbit.proofs.Unique.{one_orbit}
 use Rattle.ce_rows.specs.declared.interval.Interval.{Interval}
-use Rattle.core_entropy.specs.Answer.{IsAngleLine, line_of}
+use Rattle.core_entropy.specs.AngleLine.{IsAngleLine, line_of}
 use Rattle.core_entropy.specs.Show.{IsShowText, show_text}
-use Rattle.core_entropy.specs.Task.{IsTextOf, IsAnswer}
+use Rattle.core_entropy.specs.Answer.{IsTextOf, IsAnswer}
 use Rattle.core_entropy.specs.declared.command.Task.{Task}
 use Rattle.core_entropy.specs.declared.command.Task.TheVariants as task
 use Rattle.core_entropy.specs.Bounds.{IsLeast, IsGreatest, AreImageBounds}

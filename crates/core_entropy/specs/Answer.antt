@@ -1,35 +1,20 @@
--- The line that answers the words. Source: this project's choice; for the enclosure [Gao2020] and
--- [HornJohnson].
-use Rattle.std.specs.Prelude.{◌≡◌, ℕ, List, ◌++◌, codes, [], ◌∷◌}
-use Rattle.std.specs.Fmt.{decimal}
+-- The text that answers the words. Source: this project's choice.
+use Rattle.std.specs.Prelude.{ℕ, List}
 use Rattle.ce_angle.specs.Fraction.{Fraction}
-use Rattle.ce_orbit.specs.Orbit.{ForwardOrbit, IsForwardOrbit}
-use Rattle.ce_rows.specs.Growth.{Encloses}
-use Rattle.ce_rows.specs.declared.interval.Interval.{Interval}
-use Rattle.ce_thurston.specs.Pairs.{pair_walks}
-use Rattle.core_entropy.specs.Bounds.{AreImageBounds}
+use Rattle.core_entropy.specs.AngleLine.{IsAngleLine}
+use Rattle.core_entropy.specs.Show.{IsShowText}
+use Rattle.core_entropy.specs.Words.{AsksAngle}
+use Rattle.core_entropy.specs.declared.command.Task.{Task}
+use Rattle.core_entropy.specs.declared.command.Task.TheVariants as task
 
--- a line with its line feed
-abbrev pub ended : List ℕ → List ℕ
-ended text = text ++ 10 ∷ []
+-- A text does a task for an angle.
+abbrev pub IsTextOf : Task → Fraction → List ℕ → Type 0
+IsTextOf task.Angle angle text = IsAngleLine angle text
+IsTextOf task.Show angle text = IsShowText angle text
 
--- `P/Q`
-abbrev pub fraction_text : Fraction → List ℕ
-fraction_text f = decimal f.num ++ codes "/" ++ decimal f.den
-
--- `angle P/Q low L high H`
-abbrev pub line_of : Fraction → Interval → List ℕ
-line_of angle interval =
-    ended (codes "angle " ++ fraction_text angle
-    ++ codes " low " ++ decimal interval.low ++ codes " high " ++ decimal interval.high)
-
--- A line is that of an angle: its interval encloses the growth rate of the walks on the pairs of
--- the angle's orbit.
-pub record IsAngleLine (angle : Fraction) (line : List ℕ) : Type 0 where
-  pub orbit : ForwardOrbit
-  pub interval : Interval
-  pub is_orbit : IsForwardOrbit orbit
-  pub of_angle : orbit.angle ≡ angle
-  pub ends : AreImageBounds orbit interval
-  pub encloses : Encloses 32 (pair_walks orbit) interval.low interval.high
-  pub spelled : line ≡ line_of angle interval
+-- A text answers the words.
+pub record IsAnswer (words : List (List ℕ)) (answer : List ℕ) : Type 0 where
+  pub the_task : Task
+  pub angle : Fraction
+  pub asks : AsksAngle words the_task angle
+  pub text : IsTextOf the_task angle answer

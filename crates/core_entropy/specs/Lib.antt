@@ -1,9 +1,10 @@
--- In reading order: what words ask for, the bounds and the line of an angle, the text of an orbit,
--- the answer to words, the statuses, and what is written.
+-- In reading order: what words ask for, the bounds and the line of an angle, the text that shows an
+-- orbit, the answer to words, the statuses, and what is written.
 pub mod Words
 pub mod Bounds
-pub mod Answer
+pub mod Text
+pub mod AngleLine
 pub mod Show
-pub mod Task
+pub mod Answer
 pub mod Status
 pub mod Output

@@ -2,7 +2,7 @@
 use Rattle.std.specs.Prelude.{◌⊎◌, ℕ, List, [], Option}
 use Rattle.ce_port.specs.Sink.{GrewBy, Rose}
 use Rattle.ce_port.specs.WriteAll.{GrewByPrefix}
-use Rattle.core_entropy.specs.Task.{IsAnswer}
+use Rattle.core_entropy.specs.Answer.{IsAnswer}
 use Rattle.core_entropy.specs.declared.status.Status.{Status}
 use Rattle.core_entropy.specs.declared.status.Status.TheVariants.{Done, Usage, Angle, OrbitTooLong, WriteFault, NoMemory}
 

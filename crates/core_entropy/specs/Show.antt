@@ -12,7 +12,7 @@ use Rattle.ce_orbit.specs.declared.symbol.Symbol.TheVariants.{One, Zero, Star}
 use Rattle.ce_rows.specs.Rows.{row_at, targets_of}
 use Rattle.ce_rows.specs.declared.row.Row.{Row}
 use Rattle.ce_thurston.specs.Indices.{index_of, pair_places, rows_of_orbit}
-use Rattle.core_entropy.specs.Answer.{ended, fraction_text}
+use Rattle.core_entropy.specs.Text.{ended, fraction_text}
 
 abbrev pub symbol_text : Symbol → List ℕ
 symbol_text One = codes "1"

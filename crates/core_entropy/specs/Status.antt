@@ -3,7 +3,7 @@ use Rattle.std.specs.Prelude.{ℕ, List, [], codes, ⊤}
 use Rattle.ce_angle.specs.Fraction.{Fraction}
 use Rattle.ce_orbit.specs.Orbit.{HasOrbitWithin, HasOrbitAbove}
 use Rattle.ce_angle.specs.declared.angle.AngleError.TheVariants.{NotAFraction, ZeroDenominator, NotBelowOne, DenominatorTooLarge}
-use Rattle.core_entropy.specs.Answer.{ended}
+use Rattle.core_entropy.specs.Text.{ended}
 use Rattle.core_entropy.specs.Words.{AsksNothing, AsksFlawed, AsksTooLong, AsksOrbit}
 use Rattle.core_entropy.specs.declared.status.Status.{Status}
 use Rattle.core_entropy.specs.declared.status.Status.TheVariants.{Done, Usage, Angle, OrbitTooLong, WriteFault, NoMemory}

@@ -1,7 +1,7 @@
 // The command `angle`: the line of one angle.
 ghost use Rattle.std.specs.Prelude.{IfOk, IfErr, string_bytes};
 ghost use Rattle.ce_orbit.specs.Orbit.{HasOrbitWithin};
-ghost use Rattle.core_entropy.specs.Answer.{IsAngleLine};
+ghost use Rattle.core_entropy.specs.AngleLine.{IsAngleLine};
 ghost use Rattle.core_entropy.specs.Status.{NoText};
 
 use crate::bounds::bounds_of_ones;

@@ -1,7 +1,7 @@
 // What is true of all words. Each law stands on a function that does nothing.
 ghost use Rattle.std.specs.Prelude.{◌≡◌, ◌⊎◌, ℕ, List};
 ghost use Rattle.ce_angle.specs.declared.angle.AngleError.{AngleError};
-ghost use Rattle.core_entropy.specs.Task.{IsAnswer};
+ghost use Rattle.core_entropy.specs.Answer.{IsAnswer};
 ghost use Rattle.core_entropy.specs.Words.{AsksNothing, AsksFlawed, AsksTooLong, AsksOrbit};
 
 /// Whatever the words are, they ask for nothing, for a flawed angle, for a too long orbit or for an

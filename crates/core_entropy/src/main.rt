@@ -2,7 +2,7 @@
 // external angle.
 //
 // Words come in, and one line goes out, or an error line. `run::run_command` is the whole program
-// over any sinks; its clauses say that the printed interval encloses (specs/Answer.antt) and which
+// over any sinks; its clauses say that the printed interval encloses (specs/AngleLine.antt) and which
 // words end with which status (specs/Status.antt). The way from words to line: command, angle,
 // bounds, text, run.
 #![tactic(auto)]

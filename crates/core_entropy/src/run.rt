@@ -5,7 +5,7 @@ ghost use Rattle.ce_orbit.specs.Orbit.{HasOrbitWithin};
 ghost use Rattle.ce_port.specs.Sink.{GrewBy, Rose};
 ghost use Rattle.core_entropy.specs.Output.{WroteAnswer, WrotePart, WroteOutput, WroteLine};
 ghost use Rattle.core_entropy.specs.Status.{HasCause, IsRefusal, NoText, error_line};
-ghost use Rattle.core_entropy.specs.Task.{IsTextOf};
+ghost use Rattle.core_entropy.specs.Answer.{IsTextOf};
 ghost use Rattle.core_entropy.specs.Words.{AsksNothing, AsksFlawed, AsksTooLong, AsksOrbit};
 
 use crate::angle::line_of_angle;

@@ -9,7 +9,7 @@ ghost use Rattle.ce_thurston.specs.Indices.{index_of, pair_places, rows_of_orbit
 ghost use Rattle.core_entropy.specs.Show.{IsShowText, show_text, angle_heading, cycle_line};
 ghost use Rattle.core_entropy.specs.Show.{orbit_line, place_text, symbols_line, symbol_text};
 ghost use Rattle.core_entropy.specs.Show.{rows_text, row_line};
-ghost use Rattle.core_entropy.specs.Answer.{ended};
+ghost use Rattle.core_entropy.specs.Text.{ended};
 ghost use Rattle.core_entropy.specs.Status.{NoText};
 
 use crate::status::Status;

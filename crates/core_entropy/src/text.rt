@@ -1,6 +1,6 @@
 // The printed lines.
 ghost use Rattle.std.specs.Prelude.{◌≡◌, IfOk, string_bytes};
-ghost use Rattle.core_entropy.specs.Answer.{line_of};
+ghost use Rattle.core_entropy.specs.AngleLine.{line_of};
 
 use ce_angle::Angle;
 use ce_rows::{Interval, NoMemory};

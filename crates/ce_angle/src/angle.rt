@@ -1,5 +1,5 @@
 // An angle, and why a fraction is none.
-ghost use Rattle.std.specs.Prelude.{◌≡◌, ℕ, IfOk};
+ghost use Rattle.std.specs.Prelude.{◌≡◌, IfOk};
 ghost use Rattle.std.specs.Int.{IsGcd};
 
 use crate::reading::{number, slash_place};

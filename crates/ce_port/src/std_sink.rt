@@ -50,7 +50,7 @@ impl<W: Write> StdSink<W> {
 impl<W: Write> Sink for StdSink<W> {
     ghost use Rattle.std.specs.Prelude.{◌≡◌, ◌<◌, ◌≤◌, ℕ, None, length, take};
     ghost use Rattle.std.specs.Io.KnownBytes.{Appends};
-    ghost use Rattle.ce_port.specs.Sink.{IsWithin, GrewBy, taken_of, FailedBy};
+    ghost use Rattle.ce_port.specs.Sink.{IsWithin, FailedBy};
     ghost use Rattle.ce_port.specs.StdSink.{writer_of, fault_count};
 
     ghost taken = { λ _. None };

@@ -29,7 +29,7 @@ angle_heading angle = ended (codes "angle " ++ fraction_text angle)
 abbrev pub cycle_line : ForwardOrbit → List ℕ
 cycle_line o = ended (codes "preperiod " ++ decimal o.preperiod ++ codes " period " ++ decimal (period_of o))
 
--- the angles of an orbit in lowest terms
+-- the angle of a numerator of an orbit, in lowest terms
 abbrev pub place_text : ForwardOrbit → ℕ → List ℕ
 place_text o x = fraction_text (in_lowest_terms (record { num = x; den = o.angle.den }))
 

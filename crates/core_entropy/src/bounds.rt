@@ -1,6 +1,6 @@
 // The bounds that the vector of ones gives.
-ghost use Rattle.std.specs.Prelude.{◌≡◌, ◌≤◌, length};
-ghost use Rattle.ce_rows.specs.Rows.{AreScaledRows, EnclosesRows, targets_of};
+ghost use Rattle.std.specs.Prelude.{◌≡◌, ◌≤◌};
+ghost use Rattle.ce_rows.specs.Rows.{AreScaledRows, EnclosesRows};
 ghost use Rattle.core_entropy.specs.Bounds.{AreRowBounds, IsLeast, IsGreatest, successor_count};
 
 use ce_rows::{Interval, Row, Rows};

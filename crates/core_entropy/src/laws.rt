@@ -22,7 +22,7 @@ pub fn words_have_one_cause()
     ensures too_long { (words : List (List ℕ)) → AsksTooLong words → ¬ (AsksOrbit words) }
 {}
 
-/// Words have one answer.
+/// Words have at most one answer.
 pub fn answers_are_unique()
     ensures { (words : List (List ℕ)) (text other : List ℕ)
         → IsAnswer words text → IsAnswer words other → text ≡ other }

@@ -1,10 +1,10 @@
 // The program: intervals that enclose the growth rate of Thurston's transition matrix of a rational
-// external angle.
+// external angle, and the matrix itself.
 //
-// Words come in, and one line goes out, or an error line. `run::run_command` is the whole program
-// over any sinks; its clauses say that the printed interval encloses (specs/AngleLine.antt) and which
-// words end with which status (specs/Status.antt). The way from words to line: command, angle,
-// bounds, text, run.
+// Words come in, and one text goes out, or an error line. `run::run_command` is the whole program
+// over any sinks; its clauses say that each printed interval encloses (specs/AngleLine.antt), what
+// shows an orbit (specs/Show.antt), and which words end with which status (specs/Status.antt). The
+// way from words to text: command; then angle, bounds and text, or show; then run.
 #![tactic(auto)]
 
 mod angle;

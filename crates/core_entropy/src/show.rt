@@ -3,8 +3,7 @@ ghost use Rattle.std.specs.Prelude.{◌≡◌, ◌<◌, ◌++◌, ◌∷◌, Som
 ghost use Rattle.std.specs.Prelude.{codes, length, slice_get, slice_index, string_bytes};
 ghost use Rattle.std.specs.Fmt.{decimal};
 ghost use Rattle.ce_angle.specs.LowestTerms.{in_lowest_terms};
-ghost use Rattle.ce_orbit.specs.Orbit.{HasOrbitWithin, IsForwardOrbit};
-ghost use Rattle.ce_orbit.specs.Symbols.{symbol_of};
+ghost use Rattle.ce_orbit.specs.Orbit.{HasOrbitWithin};
 ghost use Rattle.ce_thurston.specs.Indices.{index_of, pair_places, rows_of_orbit};
 ghost use Rattle.core_entropy.specs.Show.{IsShowText, show_text, angle_heading, cycle_line};
 ghost use Rattle.core_entropy.specs.Show.{orbit_line, place_text, symbols_line, symbol_text};
@@ -25,10 +24,7 @@ fn heading(alloc: Global, angle: Angle) -> Result<String, NoMemory>
 {
     let num = angle.num();
     let den = angle.den();
-    match format!(in alloc; "angle {num}/{den}\n") {
-        Ok(text) => Ok(text),
-        Err(_) => Err(NoMemory),
-    }
+    Ok(format!(in alloc; "angle {num}/{den}\n")?)
 }
 
 // The line of the preperiod and the period.
@@ -37,10 +33,7 @@ fn line_of_cycle(alloc: Global, orbit: &Orbit) -> Result<String, NoMemory>
 {
     let preperiod = orbit.preperiod();
     let period = orbit.period();
-    match format!(in alloc; "preperiod {preperiod} period {period}\n") {
-        Ok(text) => Ok(text),
-        Err(_) => Err(NoMemory),
-    }
+    Ok(format!(in alloc; "preperiod {preperiod} period {period}\n")?)
 }
 
 // The angle at a place.
@@ -124,10 +117,7 @@ fn line_of_one(alloc: Global, k: u32, places: (u32, u32), x: u32) -> Result<Stri
     ensures { IfOk result (λ text. string_bytes text ≡ row_line k places (Row.One x)) }
 {
     let (i, j) = places;
-    match format!(in alloc; "row {k} pair {i} {j} to {x}\n") {
-        Ok(text) => Ok(text),
-        Err(_) => Err(NoMemory),
-    }
+    Ok(format!(in alloc; "row {k} pair {i} {j} to {x}\n")?)
 }
 
 // The row of a pair with two images.
@@ -141,10 +131,7 @@ fn line_of_two(
 {
     let (i, j) = places;
     let (x, y) = targets;
-    match format!(in alloc; "row {k} pair {i} {j} to {x} {y}\n") {
-        Ok(text) => Ok(text),
-        Err(_) => Err(NoMemory),
-    }
+    Ok(format!(in alloc; "row {k} pair {i} {j} to {x} {y}\n")?)
 }
 
 // The line of a row.

@@ -1,4 +1,4 @@
-// The printed lines.
+// How the line of an angle is spelled.
 ghost use Rattle.std.specs.Prelude.{◌≡◌, IfOk, string_bytes};
 ghost use Rattle.core_entropy.specs.AngleLine.{line_of};
 
@@ -13,8 +13,5 @@ pub fn angle_line(alloc: Global, angle: Angle, interval: Interval) -> Result<Str
     let num = angle.num();
     let den = angle.den();
     let Interval { low, high } = interval;
-    match format!(in alloc; "angle {num}/{den} low {low} high {high}\n") {
-        Ok(text) => Ok(text),
-        Err(_) => Err(NoMemory),
-    }
+    Ok(format!(in alloc; "angle {num}/{den} low {low} high {high}\n")?)
 }

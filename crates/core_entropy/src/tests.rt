@@ -85,12 +85,16 @@ fn orbits_are_shown(rt: HostRuntime) -> Result<(), Fail> {
 #[test]
 fn the_longest_orbit_is_shown(rt: HostRuntime) -> Result<(), Fail> {
     let words = words_of(rt.alloc(), "show 1/448790528")?;
-    let mut out = SureSink::new(rt.alloc(), 64)?;
+    let mut out = SureSink::new(rt.alloc(), 300_000)?;
     let mut err = SureSink::new(rt.alloc(), ROOM)?;
     let status = run_command(rt.alloc(), &words, &mut out, &mut err);
     assert_eq!(rt; status, Status::Done);
-    let start = b"angle 1/448790528\npreperiod 22 period 106\norbit 1/448790528 1/22";
-    assert_eq!(rt; out.taken(), start.as_slice());
+    let text = out.taken();
+    let start = b"angle 1/448790528\npreperiod 22 period 106\norbit 1/448790528 1/22".as_slice();
+    let end = b"\nrow 8127 pair 126 127 to 8001 231\n".as_slice();
+    assert!(rt; start.len() <= text.len() && end.len() <= text.len());
+    assert_eq!(rt; &text[..start.len()], start);
+    assert_eq!(rt; &text[text.len() - end.len()..], end);
     Ok(())
 }
 

@@ -8,6 +8,7 @@
 #![tactic(auto)]
 
 mod interval;
+mod laws;
 mod maker;
 mod no_memory;
 mod row;
@@ -17,6 +18,7 @@ mod scale;
 mod tests;
 
 pub use interval::Interval;
+pub use laws::low_is_at_most_high;
 pub use maker::RowsMaker;
 pub use no_memory::NoMemory;
 pub use row::Row;

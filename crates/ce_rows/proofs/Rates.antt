@@ -54,8 +54,8 @@ passes c h m always =
     let t = 2 ^ (i + i) in
     let e = (h + (i + i)) * m in
     let line : h * t + 1 ≤ 2 ^ (h + (i + i)) =
-        let wide = mul-le-mul_right t (below_power h) in
-        rw (pow-add 2 h (i + i)) (omega (arith, wide, pow_pos (i + i))) in
+    let wide = mul-le-mul_right t (below_power h) in
+    rw (pow-add 2 h (i + i)) (omega (arith, wide, pow_pos (i + i))) in
     let power : (h * t + 1) ^ m ≤ 2 ^ e = subst (λ x. (h * t + 1) ^ m ≤ x) (power_of_power (h + (i + i)) m) (pow-le-pow_left line m) in
     let all : 2 ^ t ≤ c * 2 ^ e = omega (arith, always t, mul-le-mul_left c power) in
     let factor : (c + 1) * 2 ^ e ≤ 2 ^ (c + e) = rw (pow-add 2 c e) (mul-le-mul_right (2 ^ e) (below_power c)) in

@@ -1,4 +1,5 @@
--- An exponential passes every fixed power, so a growth lower bound is at most a growth upper bound. Source: [HardyWright].
+-- An exponential passes every fixed power, by Bernoulli's inequality; so a growth lower bound is at
+-- most a growth upper bound.
 use Rattle.std.proofs.Common.{◌<◌, ◌≤◌, ◌+◌, ◌*◌, ◌^◌, ◌≡◌, ◌∙◌, ℕ, zero, suc, ap, subst, arith, mul-le-mul_left, le_of_mul-le-mul_right, pow_pos, inl, inr}
 use Rattle.std.proofs.lemmas.Bool.{cases_lt}
 use Rattle.std.proofs.lemmas.Nat.{pow-add}

@@ -7,6 +7,7 @@
 // growth rate (specs/Growth.antt).
 #![tactic(auto)]
 
+mod block;
 mod interval;
 mod laws;
 mod maker;
@@ -17,6 +18,7 @@ mod scale;
 #[cfg(test)]
 mod tests;
 
+pub use block::block_sum;
 pub use interval::Interval;
 pub use laws::low_is_at_most_high;
 pub use maker::RowsMaker;

@@ -1,6 +1,6 @@
 // Rows that are pushed and read back: those of the angle 1/4.
 use crate::Row::{One, Two};
-use crate::{Row, Rows, RowsMaker, Scale};
+use crate::{Row, Rows, RowsMaker, Scale, block_sum};
 use std::alloc::{AllocError, Global};
 use std::test::Fail;
 
@@ -53,4 +53,25 @@ fn two_exponents_are_scales(rt: HostRuntime) {
             "2^{exponent}"
         );
     }
+}
+
+#[test]
+fn block_sums_take_successors_of_the_same_rank(rt: HostRuntime) -> Result<(), Fail> {
+    let mut maker = RowsMaker::new(rt.alloc(), 3)?;
+    maker.push(One(2));
+    maker.push(Two(0, 1));
+    maker.push(Two(1, 1));
+    let rows = maker.finish();
+    let table: [([u32; 3], [u64; 3]); 3] = [
+        ([0, 0, 0], [9, 13, 16]),
+        ([0, 1, 0], [9, 8, 0]),
+        ([0, 1, 2], [0, 8, 0]),
+    ];
+    for (ranks, want) in table {
+        for i in 0..3u32 {
+            let sum = block_sum(&rows, &ranks, &[5, 8, 9], i);
+            assert_eq!(rt; sum, want[i as usize], "vertex {i}");
+        }
+    }
+    Ok(())
 }

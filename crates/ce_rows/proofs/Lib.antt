@@ -1,3 +1,4 @@
 pub mod Blocks
+pub mod Ranked
 pub mod Rates
 pub mod Targets

@@ -1,0 +1,10 @@
+pub mod Sums
+pub mod Vertices
+pub mod Low
+pub mod Steps
+pub mod High
+pub mod Cut
+pub mod Enclose
+pub mod Kept
+pub mod Extremes
+pub mod BoundsOf

@@ -1,8 +1,7 @@
-mod Extremes
-mod Growth
 mod Two
 mod Line
 mod Causes
 mod OneAnswer
 mod Outcomes
 mod ShowRows
+mod Ones

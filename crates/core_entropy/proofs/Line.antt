@@ -7,22 +7,8 @@ use Rattle.ce_rows.specs.Rows.{ScaledRows, EnclosesRows, all_walks}
 use Rattle.ce_rows.specs.declared.interval.Interval.{Interval}
 use Rattle.ce_thurston.specs.Pairs.{pair_walks}
 use Rattle.ce_thurston.specs.Indices.{rows_of_orbit}
-use Rattle.ce_thurston.proofs.Listed.{pairs_from_rows, pair_from_row}
 use Rattle.core_entropy.specs.AngleLine.{IsAngleLine, line_of}
-use Rattle.core_entropy.specs.Bounds.{AreRowBounds, AreImageBounds}
-
--- The row bounds of an orbit's rows are the bounds of its pairs.
-image_bounds : (o : ForwardOrbit) (interval : Interval) → IsForwardOrbit o → AreRowBounds (record { list = rows_of_orbit o; exponent = 32 }) interval → AreImageBounds o interval
-image_bounds o interval h ends = record {
-  low = record {
-    attained = pair_from_row o h (λ n. interval.low ≡ 2 ^ 32 * n) ends.low.attained;
-    below = pairs_from_rows o h (λ n. interval.low ≤ 2 ^ 32 * n) ends.low.below;
-  };
-  high = record {
-    attained = pair_from_row o h (λ n. interval.high ≡ 2 ^ 32 * n) ends.high.attained;
-    above = pairs_from_rows o h (λ n. 2 ^ 32 * n ≤ interval.high) ends.high.above;
-  };
-}
+use Rattle.core_entropy.specs.Bounds.{rows_at, AreBoundsOfOnes}
 
 -- What encloses the growth of counts encloses that of the same counts.
 same_growth : (exponent : ℕ) (count other : ℕ → ℕ) (low high : ℕ) → ((n : ℕ) → count n ≡ other n) → Encloses exponent count low high → Encloses exponent other low high
@@ -32,13 +18,13 @@ same_growth exponent count other low high same h = record {
   above = (h.above.0, h.above.1, h.above.2, λ n. subst (λ c. (2 ^ exponent) ^ n * c ≤ h.above.0 * (n + 1) ^ h.above.1 * high ^ n) (same n) (h.above.3 n));
 }
 
-pub angle_line_is : (angle : Fraction) (o : ForwardOrbit) (rows : ScaledRows) (interval : Interval) (line : List ℕ) → IsForwardOrbit o → o.angle ≡ angle → rows ≡ record { list = rows_of_orbit o; exponent = 32 } → ((n : ℕ) → all_walks rows.list n ≡ pair_walks o n) → AreRowBounds rows interval → EnclosesRows rows interval.low interval.high → line ≡ line_of angle interval → IsAngleLine angle line
+pub angle_line_is : (angle : Fraction) (o : ForwardOrbit) (rows : ScaledRows) (interval : Interval) (line : List ℕ) → IsForwardOrbit o → o.angle ≡ angle → rows ≡ record { list = rows_of_orbit o; exponent = 32 } → ((n : ℕ) → all_walks rows.list n ≡ pair_walks o n) → AreBoundsOfOnes rows interval → EnclosesRows rows interval.low interval.high → line ≡ line_of angle interval → IsAngleLine angle line
 angle_line_is angle o rows interval line is_orbit of_angle same walks ends encloses spelled = record {
   orbit = o;
   interval = interval;
   is_orbit = is_orbit;
   of_angle = of_angle;
-  ends = image_bounds o interval is_orbit (subst (λ r. AreRowBounds r interval) same ends);
+  ends = subst (λ r. AreBoundsOfOnes r interval) same ends;
   encloses = same_growth 32 (all_walks rows.list) (pair_walks o) interval.low interval.high walks (subst (λ e. Encloses e (all_walks rows.list) interval.low interval.high) (ap (λ (r : ScaledRows). r.exponent) same) encloses);
   spelled = spelled;
 }

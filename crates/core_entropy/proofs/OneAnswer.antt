@@ -9,27 +9,8 @@ use Rattle.core_entropy.specs.Show.{IsShowText, show_text}
 use Rattle.core_entropy.specs.Answer.{IsTextOf, IsAnswer}
 use Rattle.core_entropy.specs.declared.command.Task.{Task}
 use Rattle.core_entropy.specs.declared.command.Task.TheVariants as task
-use Rattle.core_entropy.specs.Bounds.{IsLeast, IsGreatest, AreImageBounds}
+use Rattle.core_entropy.specs.Bounds.{rows_at, AreBoundsOfOnes}
 use Rattle.core_entropy.proofs.Causes.{one_task, one_angle}
-
-module _ {X : Type 0} (size : X → ℕ) (xs : List X) where
-  least_at_most : (a b : ℕ) → IsLeast size xs a → IsLeast size xs b → a ≤ b
-  least_at_most a b h k =
-      let some = k.attained in
-      let above = subst (λ x. a ≤ size x) some.3 (h.below some.0 some.1 some.2) in
-      omega (arith, above, some.4)
-
-  one_least : (a b : ℕ) → IsLeast size xs a → IsLeast size xs b → a ≡ b
-  one_least a b h k = let less = least_at_most a b h k in let more = least_at_most b a k h in omega arith
-
-  greatest_at_least : (a b : ℕ) → IsGreatest size xs a → IsGreatest size xs b → b ≤ a
-  greatest_at_least a b h k =
-      let some = k.attained in
-      let below = subst (λ x. size x ≤ a) some.3 (h.above some.0 some.1 some.2) in
-      omega (arith, below, some.4)
-
-  one_greatest : (a b : ℕ) → IsGreatest size xs a → IsGreatest size xs b → a ≡ b
-  one_greatest a b h k = let less = greatest_at_least a b h k in let more = greatest_at_least b a k h in omega arith
 
 same_interval : (i j : Interval) → i.low ≡ j.low → i.high ≡ j.high → i ≡ j
 same_interval i j low high =
@@ -37,13 +18,13 @@ same_interval i j low high =
     let with_high : ℕ → Interval = λ n. record { low = j.low; high = n } in
     ap with_low low ∙ ap with_high high
 
-one_interval : (o : ForwardOrbit) (i j : Interval) → AreImageBounds o i → AreImageBounds o j → i ≡ j
-one_interval o i j h k = same_interval i j (one_least _ _ i.low j.low h.low k.low) (one_greatest _ _ i.high j.high h.high k.high)
+one_interval : (o : ForwardOrbit) (i j : Interval) → AreBoundsOfOnes (rows_at o 32) i → AreBoundsOfOnes (rows_at o 32) j → i ≡ j
+one_interval o i j h k = same_interval i j (h.low ∙ sym k.low) (h.high ∙ sym k.high)
 
 one_line : (angle : Fraction) (line other : List ℕ) → IsAngleLine angle line → IsAngleLine angle other → line ≡ other
 one_line angle line other h k =
     let orbit = one_orbit h.orbit k.orbit h.is_orbit k.is_orbit (h.of_angle ∙ sym k.of_angle) in
-    let interval = one_interval h.orbit h.interval k.interval h.ends (subst (λ o. AreImageBounds o k.interval) (sym orbit) k.ends) in
+    let interval = one_interval h.orbit h.interval k.interval h.ends (subst (λ o. AreBoundsOfOnes (rows_at o 32) k.interval) (sym orbit) k.ends) in
     h.spelled ∙ ap (λ i. line_of angle i) interval ∙ sym k.spelled
 
 one_show : (angle : Fraction) (text other : List ℕ) → IsShowText angle text → IsShowText angle other → text ≡ other

@@ -7,7 +7,7 @@ use Rattle.ce_orbit.specs.Orbit.{ForwardOrbit, IsForwardOrbit}
 use Rattle.ce_rows.specs.Growth.{Encloses}
 use Rattle.ce_rows.specs.declared.interval.Interval.{Interval}
 use Rattle.ce_thurston.specs.Pairs.{pair_walks}
-use Rattle.core_entropy.specs.Bounds.{AreImageBounds}
+use Rattle.core_entropy.specs.Bounds.{rows_at, AreBoundsOfOnes}
 use Rattle.core_entropy.specs.Text.{ended, fraction_text}
 
 -- `angle P/Q low L high H`
@@ -23,6 +23,6 @@ pub record IsAngleLine (angle : Fraction) (line : List ℕ) : Type 0 where
   pub interval : Interval
   pub is_orbit : IsForwardOrbit orbit
   pub of_angle : orbit.angle ≡ angle
-  pub ends : AreImageBounds orbit interval
+  pub ends : AreBoundsOfOnes (rows_at orbit 32) interval
   pub encloses : Encloses 32 (pair_walks orbit) interval.low interval.high
   pub spelled : line ≡ line_of angle interval

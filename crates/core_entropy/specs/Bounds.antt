@@ -1,41 +1,24 @@
--- The bounds of the vector of ones: the least and the greatest row sum. Source: [HornJohnson],
--- chapter 8.
-use Rattle.std.specs.Prelude.{◌≡◌, ℕ, ◌*◌, ◌^◌, ◌≤◌, List, length, All}
-use Rattle.std.specs.List.{Any}
-use Rattle.ce_angle.specs.Fraction.{Fraction}
+-- The bounds of the vector of ones, with all vertices in one block. Source: [HornJohnson], chapter 8.
+use Rattle.std.specs.Prelude.{◌≡◌, ℕ, List, length, replicate}
+use Rattle.ce_cert.specs.Quotients.{low_of, high_of}
 use Rattle.ce_orbit.specs.Orbit.{ForwardOrbit}
-use Rattle.ce_rows.specs.Rows.{ScaledRows, targets_of}
-use Rattle.ce_rows.specs.declared.row.Row.{Row}
+use Rattle.ce_rows.specs.Rows.{ScaledRows}
 use Rattle.ce_rows.specs.declared.interval.Interval.{Interval}
-use Rattle.ce_thurston.specs.Pairs.{images, pairs_of}
+use Rattle.ce_rows.specs.declared.row.Row.{Row}
+use Rattle.ce_thurston.specs.Indices.{rows_of_orbit}
 
--- A number is the least, and a number is the greatest, of a value's sizes over a list.
-pub record IsLeast {X : Type 0} (size : X → ℕ) (xs : List X) (least : ℕ) : Type 0 where
-  pub attained : Any (λ x. least ≡ size x) xs
-  pub below : All (λ x. least ≤ size x) xs
+-- the rows of an orbit, at the scale with an exponent
+abbrev pub rows_at : ForwardOrbit → ℕ → ScaledRows
+rows_at o exponent = record { list = rows_of_orbit o; exponent = exponent }
 
-pub record IsGreatest {X : Type 0} (size : X → ℕ) (xs : List X) (greatest : ℕ) : Type 0 where
-  pub attained : Any (λ x. greatest ≡ size x) xs
-  pub above : All (λ x. size x ≤ greatest) xs
+-- a number for each row: the rank of one block, and the vector of ones
+abbrev pub zeros : List Row → List ℕ
+zeros list = replicate (length list) 0
 
-abbrev pub successor_count : Row → ℕ
-successor_count row = length (targets_of row)
+abbrev pub ones : List Row → List ℕ
+ones list = replicate (length list) 1
 
--- how many successors a row has, at the scale with an exponent
-abbrev pub row_sum : ℕ → Row → ℕ
-row_sum exponent row = 2 ^ exponent * successor_count row
-
--- how many images a pair of an angle has, in units of 2^-32
-abbrev pub image_sum : Fraction → ℕ × ℕ → ℕ
-image_sum angle pair = 2 ^ 32 * length (images angle pair)
-
--- The ends are the least and the greatest row sum.
-pub record AreRowBounds (rows : ScaledRows) (interval : Interval) : Type 0 where
-  pub low : IsLeast (row_sum rows.exponent) rows.list interval.low
-  pub high : IsGreatest (row_sum rows.exponent) rows.list interval.high
-
--- The ends are 2^32 times the least and 2^32 times the greatest number of images of a pair of an
--- orbit.
-pub record AreImageBounds (o : ForwardOrbit) (interval : Interval) : Type 0 where
-  pub low : IsLeast (image_sum o.angle) (pairs_of o) interval.low
-  pub high : IsGreatest (image_sum o.angle) (pairs_of o) interval.high
+-- The ends are the Collatz-Wielandt bounds of the vector of ones.
+pub record AreBoundsOfOnes (rows : ScaledRows) (interval : Interval) : Type 0 where
+  pub low : interval.low ≡ low_of rows (zeros rows.list) (ones rows.list)
+  pub high : interval.high ≡ high_of rows (zeros rows.list) (ones rows.list)

@@ -24,7 +24,10 @@ pub fn line_of_angle(alloc: Global, angle: Angle) -> Result<String, Status>
     let Ok(rows) = rows_of(alloc, &orbit) else {
         return Err(Status::NoMemory);
     };
-    match angle_line(alloc, angle, bounds_of_ones(&rows)) {
+    let Ok(interval) = bounds_of_ones(alloc, &rows) else {
+        return Err(Status::NoMemory);
+    };
+    match angle_line(alloc, angle, interval) {
         Ok(line) => Ok(line),
         Err(_) => Err(Status::NoMemory),
     }

@@ -1,0 +1,10 @@
+mod Numbers
+mod Described
+mod Reading
+mod Making
+mod PlainWalk
+mod PlainForm
+mod PlainMeaning
+mod Limited
+mod Outcomes
+mod Causes

@@ -1,0 +1,90 @@
+-- The numbers of a command are within their limits.
+use Rattle.std.proofs.Common.{◌≡◌, ◌||◌, ◌==◌, ℕ, List, [], ◌∷◌, Bool, true, false, Option, Some, None, refl, subst, arith, inl, inr}
+use Rattle.std.specs.Prelude.{if◌then◌else◌, option_and_then, unwrap_or, Result, Ok, Err, IfOk}
+use Rattle.std.proofs.lemmas.Bool.Decides.{nat_tests}
+use Rattle.clap.specs.Words.{Text}
+use Rattle.ce_angle.specs.Typed.{number_of}
+use Rattle.ce_rows.specs.Scale.{IsExponent}
+use Rattle.ce_command.specs.Options.{Given, OptionForm, has_number, number_or}
+use Rattle.ce_command.specs.Form.{app_of_form}
+use Rattle.ce_command.specs.Table.{form_of, rounds, scale, turns}
+use Rattle.ce_command.specs.Meaning.{command_by, command_from, command_of, given_in, has_good_numbers, name_of, number_at, text_in}
+use Rattle.ce_command.specs.Reading.{MeansBy}
+use Rattle.ce_command.specs.Limits.{IsWithinLimits}
+use Rattle.ce_command.specs.declared.options.Numbers.{Numbers}
+use Rattle.ce_command.specs.declared.name.CommandName.{CommandName}
+use Rattle.ce_command.specs.declared.name.CommandName.TheVariants as name
+use Rattle.ce_command.specs.declared.command.Command.{Command}
+use Rattle.ce_command.specs.declared.command.WordsError.{WordsError}
+
+kept : (numbers : Numbers) (default : ℕ) (n : ℕ) → has_number numbers default ≡ true
+    → has_number numbers (unwrap_or (if has_number numbers n then Some n else None) default) ≡ true
+kept numbers default n usual = go (has_number numbers n) refl
+  where
+    go : (b : Bool) → has_number numbers n ≡ b → has_number numbers (unwrap_or (if b then Some n else None) default) ≡ true
+    go true e = e
+    go false e = usual
+
+read_kept : (numbers : Numbers) (default : ℕ) (o : Option ℕ) → has_number numbers default ≡ true
+    → has_number numbers (unwrap_or (option_and_then (λ n. if has_number numbers n then Some n else None) o) default) ≡ true
+read_kept numbers default None usual = usual
+read_kept numbers default (Some n) usual = kept numbers default n usual
+
+or_kept : (numbers : Numbers) (default : ℕ) (o : Option Text) → has_number numbers default ≡ true
+    → has_number numbers (unwrap_or (number_or default numbers o) default) ≡ true
+or_kept numbers default None usual = usual
+or_kept numbers default (Some text) usual = read_kept numbers default (number_of text) usual
+
+-- an option's number is one that it takes, where its usual one is
+taken_number : (given : Given) (option : OptionForm) → has_number option.numbers option.default ≡ true → has_number option.numbers (number_at given option) ≡ true
+taken_number given option usual = or_kept option.numbers option.default (given option.name) usual
+
+exponent : (n : ℕ) → (n == 32 || n == 48) ≡ true → IsExponent n
+exponent n e = go (n == 32) (n == 48) refl refl e
+  where
+    go : (a b : Bool) → (n == 32) ≡ a → (n == 48) ≡ b → (a || b) ≡ true → IsExponent n
+    go true b first second h = inl (grind (arith, nat_tests))
+    go false true first second h = inr (grind (arith, nat_tests))
+    go false false first second h = cc
+
+limited : (name : CommandName) (given : Given) → IsWithinLimits ((form_of name).command (text_in given) (number_at given))
+unfolding form_of
+limited name.Angle given =
+    let first = taken_number given rounds refl in
+    let second = taken_number given turns refl in
+    let third = taken_number given scale refl in
+    record {
+      few_rounds = grind (arith, nat_tests, first);
+      no_turns = grind (arith, nat_tests, second);
+      known_scale = exponent (number_at given scale) third;
+    }
+limited name.Show given = tt
+
+some_if : (b : Bool) (made command : Command) → (if b then Some made else None) ≡ Some command → made ≡ command
+some_if true made command e = cc
+some_if false made command e = cc
+
+pub made_limited : (name : CommandName) (given : Given) (command : Command) → command_from (form_of name) given ≡ Some command → IsWithinLimits command
+made_limited name given command made =
+    subst IsWithinLimits (some_if (has_good_numbers (form_of name) given) _ command made) (limited name given)
+
+some_where_true : (b : Bool) (o : Option Command) (command : Command) → (if b then o else None) ≡ Some command → o ≡ Some command
+some_where_true true o command e = e
+some_where_true false o command e = cc
+
+pub meaning_limited : (name : CommandName) (words : List Text) (command : Command) → command_by (form_of name) words ≡ Some command → IsWithinLimits command
+meaning_limited name words command is =
+    made_limited name (given_in (app_of_form (form_of name)) words) command (some_where_true _ _ command is)
+
+pub outcome_limited : (name : CommandName) (words : List Text) (r : Result Command WordsError) → MeansBy (form_of name) words r → IfOk r IsWithinLimits
+outcome_limited name words (Ok command) means = meaning_limited name words command means
+outcome_limited name words (Err e) means = tt
+
+found_limited : (words : List Text) (o : Option CommandName) (command : Command)
+    → option_and_then (λ name. command_by (form_of name) words) o ≡ Some command → IsWithinLimits command
+found_limited words None command is = cc
+found_limited words (Some name) command is = meaning_limited name words command is
+
+pub all_limited : (words : List Text) (command : Command) → command_of words ≡ Some command → IsWithinLimits command
+all_limited [] command is = cc
+all_limited (first ∷ rest) command is = found_limited (first ∷ rest) (name_of first) command is

@@ -1,0 +1,99 @@
+// Words by `clap`.
+ghost use Rattle.std.specs.Prelude.{◌≡◌, ◌≢◌, IfOk, map, option_map, string_bytes};
+ghost use Rattle.clap.specs.Words.{app_of, kind_of};
+ghost use Rattle.ce_command.specs.Form.{app_with};
+ghost use Rattle.ce_command.specs.Options.{number_given, option_form};
+ghost use Rattle.ce_command.specs.Meaning.{text_in};
+ghost use Rattle.ce_command.specs.Reading.{ReadsBy, given_by};
+ghost use Rattle.ce_command.specs.Table.{app_named};
+
+use crate::command::WordsError;
+use crate::name::CommandName;
+use crate::options::{NumberOption, ROUNDS, SCALE, TURNS};
+use clap::error::ErrorKind;
+use clap::{Arg, ArgAction, ArgMatches};
+use std::alloc::{AllocError, Global};
+
+/// The positional word of an angle.
+pub(crate) const FRACTION: &str = "fraction";
+
+// What `clap` is told of a command with these words and options. Each positional word is required,
+// and each option takes one value. None of the flags of `clap` itself is there.
+fn described<'a>(
+    alloc: Global,
+    name: &'a str,
+    positionals: &[&'a str],
+    options: &[NumberOption],
+) -> Result<clap::Command<'a>, AllocError>
+    ensures { IfOk result (λ command. app_of command
+        ≡ app_with name.now (map (λ id. id.now) positionals.now) (map option_form options.now)) }
+{
+    let mut command = clap::Command::new(alloc, name)
+        .disable_help_flag(true)
+        .disable_version_flag(true);
+    for id in positionals {
+        let positional = Arg::new(alloc, *id).required(true).action(ArgAction::Set);
+        command = command.arg(positional)?;
+    }
+    for option in options {
+        let argument = Arg::new(alloc, option.name)
+            .long(option.name)
+            .action(ArgAction::Set);
+        command = command.arg(argument)?;
+    }
+    Ok(command)
+}
+
+// What `clap` is told of a command.
+fn description<'a>(alloc: Global, name: CommandName) -> Result<clap::Command<'a>, AllocError>
+    ensures { IfOk result (λ command. app_of command ≡ app_named name) }
+{
+    match name {
+        CommandName::Angle => described(alloc, "angle", &[FRACTION], &[ROUNDS, TURNS, SCALE]),
+        CommandName::Show => described(alloc, "show", &[FRACTION], &[]),
+    }
+}
+
+// What an error of `clap` comes to.
+fn refusal(error: &clap::Error) -> WordsError
+    ensures { result ≡ WordsError.Usage → kind_of error.now ≢ ErrorKind.OutOfMemory }
+{
+    match error.kind() {
+        ErrorKind::OutOfMemory => WordsError::NoMemory,
+        _ => WordsError::Usage,
+    }
+}
+
+/// Reads words, the first of which is the command's name.
+pub(crate) fn matched<'a>(
+    alloc: Global,
+    name: CommandName,
+    words: &'a [String],
+) -> Result<ArgMatches<'a>, WordsError>
+    ensures { ReadsBy (app_named name) (map string_bytes words.entry.now) result }
+{
+    let Ok(command) = description(alloc, name) else {
+        return Err(WordsError::NoMemory);
+    };
+    match command.try_get_matches_from(words) {
+        Ok(matches) => Ok(matches),
+        Err(error) => Err(refusal(&error)),
+    }
+}
+
+/// The text of a positional word. `clap` reads no words without it.
+pub(crate) fn text_of<'a>(matches: &ArgMatches<'a>, id: &str) -> &'a str
+    ensures { result.now ≡ text_in (given_by matches.now) id.now }
+{
+    matches.get_str(id).unwrap_or("")
+}
+
+/// The number of an option, where its value is in form and in range.
+pub(crate) fn number_of(matches: &ArgMatches<'_>, option: NumberOption) -> Option<u32>
+    ensures { result ≡ number_given (given_by matches.now) (option_form option) }
+{
+    match matches.get_str(option.name) {
+        None => Some(option.default),
+        Some(text) => option.numbers.read(text),
+    }
+}

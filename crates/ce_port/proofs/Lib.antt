@@ -1,2 +1,4 @@
 mod Grown
 mod Overrun
+mod Front
+mod Gave

@@ -1,0 +1,17 @@
+// Vectors on the way to the eigenvector of the growth rate.
+//
+// Rows and ranks come in, vectors of entries go out. `lazy_rounds` is power iteration with I + B
+// from ones (specs/PowerIteration.antt), which `scale_start` scales up to the start of a run
+// (specs/Start.antt). `relax` and `shift` are what a run does to one entry
+// (specs/Relaxation.antt). No call takes memory.
+#![tactic(auto)]
+
+mod iteration;
+mod relaxation;
+mod start;
+#[cfg(test)]
+mod tests;
+
+pub use iteration::{lazy_round, lazy_rounds};
+pub use relaxation::{relax, shift};
+pub use start::scale_start;

@@ -4,10 +4,12 @@
 // Rows are pushed one after another into a `RowsMaker`, which hands out `Rows`. Contracts see
 // `Rows` as the list of rows and the exponent of the scale. Here stand the definitions that all
 // bounds speak of: walks of any graph and their total (specs/Walks.antt), and what encloses their
-// growth rate (specs/Growth.antt).
+// growth rate (specs/Growth.antt). `Event` is a step of a run, and specs/Events.antt says what it
+// does to the state that all actors of the run share.
 #![tactic(auto)]
 
 mod block;
+mod event;
 mod interval;
 mod laws;
 mod maker;
@@ -20,6 +22,7 @@ mod scale;
 mod tests;
 
 pub use block::block_sum;
+pub use event::Event;
 pub use interval::Interval;
 pub use laws::low_is_at_most_high;
 pub use maker::RowsMaker;

@@ -1,6 +1,6 @@
-// Where bytes come from and where text goes. A `Source` gives bytes a piece at a time, a `Sink` takes
-// them, and both count their faults; `read_all` reads a source to its end, `write_all` hands a sink
-// a whole text.
+// Where bytes come from and where text goes. A `Source` gives bytes a piece at a time, a `Sink`
+// takes them, and both count their faults; `read_all` reads a source to its end, `write_all` hands
+// a sink a whole text.
 //
 // The main facts: of a source that tells its bytes `read_all` gives all, or it says that there are
 // more than the limit, or the count of faults rose (or memory was refused). A sink that tells its

@@ -5,6 +5,6 @@ mod Making
 mod PlainWalk
 mod PlainForm
 mod PlainMeaning
-mod Limited
+pub mod Limited
 mod Outcomes
 mod Causes

@@ -3,14 +3,17 @@ use Rattle.std.proofs.Common.{◌≡◌, ◌||◌, ◌==◌, ℕ, List, [], ◌�
 use Rattle.std.specs.Prelude.{if◌then◌else◌, option_and_then, unwrap_or, Result, Ok, Err, IfOk}
 use Rattle.std.proofs.lemmas.Bool.Decides.{nat_tests}
 use Rattle.clap.specs.Words.{Text}
-use Rattle.ce_angle.specs.Typed.{number_of}
+use Rattle.ce_angle.specs.Fraction.{Fraction}
+use Rattle.ce_angle.specs.Typed.{angle_of_text, number_of}
+use Rattle.ce_angle.specs.declared.angle.AngleError.{AngleError}
+use Rattle.ce_angle.proofs.Unique.{text_read}
 use Rattle.ce_rows.specs.Scale.{IsExponent}
 use Rattle.ce_command.specs.Options.{Given, OptionForm, has_number, number_or}
 use Rattle.ce_command.specs.Form.{app_of_form}
-use Rattle.ce_command.specs.Table.{form_of, rounds, scale, turns}
+use Rattle.ce_command.specs.Table.{form_of, fraction, rounds, scale, turns}
 use Rattle.ce_command.specs.Meaning.{command_by, command_from, command_of, given_in, has_good_numbers, name_of, number_at, text_in}
 use Rattle.ce_command.specs.Reading.{MeansBy}
-use Rattle.ce_command.specs.Limits.{IsWithinLimits}
+use Rattle.ce_command.specs.Limits.{AreLimited, IsRead, IsWithinLimits}
 use Rattle.ce_command.specs.declared.options.Numbers.{Numbers}
 use Rattle.ce_command.specs.declared.name.CommandName.{CommandName}
 use Rattle.ce_command.specs.declared.name.CommandName.TheVariants as name
@@ -47,18 +50,26 @@ exponent n e = go (n == 32) (n == 48) refl refl e
     go false true first second h = inr (grind (arith, nat_tests))
     go false false first second h = cc
 
+-- what is read as an angle is one
+angle_read : (text : Text) (r : Result Fraction AngleError) → angle_of_text text ≡ r → IsRead r
+angle_read text (Ok angle) e = text_read text angle e
+angle_read text (Err flaw) e = tt
+
 limited : (name : CommandName) (given : Given) → IsWithinLimits ((form_of name).command (text_in given) (number_at given))
 unfolding form_of
 limited name.Angle given =
     let first = taken_number given rounds refl in
     let second = taken_number given turns refl in
     let third = taken_number given scale refl in
-    record {
+    let text = text_in given fraction in
+    let numbers : AreLimited (number_at given rounds) (number_at given turns) (number_at given scale) = record {
       few_rounds = grind (arith, nat_tests, first);
       no_turns = grind (arith, nat_tests, second);
       known_scale = exponent (number_at given scale) third;
-    }
-limited name.Show given = tt
+    } in
+    (angle_read text (angle_of_text text) refl, numbers)
+limited name.Show given =
+    let text = text_in given fraction in angle_read text (angle_of_text text) refl
 
 some_if : (b : Bool) (made command : Command) → (if b then Some made else None) ≡ Some command → made ≡ command
 some_if true made command e = cc

@@ -1,8 +1,14 @@
--- The limits of a command's numbers. Source: this project's choice.
-use Rattle.std.specs.Prelude.{◌≡◌, ◌≤◌, ℕ, ⊤}
+-- The limits of what a command has. Source: this project's choice.
+use Rattle.std.specs.Prelude.{◌≡◌, ◌≤◌, ℕ, Result, IfOk}
+use Rattle.ce_angle.specs.Fraction.{Fraction, IsAngle}
+use Rattle.ce_angle.specs.declared.angle.AngleError.{AngleError}
 use Rattle.ce_rows.specs.Scale.{IsExponent}
 use Rattle.ce_command.specs.declared.command.Command.{Command}
 use Rattle.ce_command.specs.declared.command.Command.TheVariants.{Angle, Show}
+
+-- What is read as an angle is one.
+abbrev pub IsRead : Result Fraction AngleError → Type 0
+IsRead angle = IfOk angle IsAngle
 
 -- the numbers of a solved angle
 pub record AreLimited (rounds turns scale : ℕ) : Type 0 where
@@ -10,7 +16,7 @@ pub record AreLimited (rounds turns scale : ℕ) : Type 0 where
   pub no_turns : turns ≡ 0
   pub known_scale : IsExponent scale
 
--- A command's numbers are within their limits.
+-- A command's angle is one, if any, and its numbers are within their limits.
 abbrev pub IsWithinLimits : Command → Type 0
-IsWithinLimits (Angle angle rounds turns scale) = AreLimited rounds turns scale
-IsWithinLimits (Show angle) = ⊤
+IsWithinLimits (Angle angle rounds turns scale) = IsRead angle × AreLimited rounds turns scale
+IsWithinLimits (Show angle) = IsRead angle

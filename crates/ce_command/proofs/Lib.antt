@@ -1,10 +1,11 @@
-mod Numbers
 mod Described
 mod Reading
 mod Making
 mod PlainWalk
+mod Values
 mod PlainForm
-mod PlainMeaning
+pub mod PlainMeaning
+pub mod Positionals
 pub mod Limited
 mod Outcomes
-mod Causes
+pub mod Causes

@@ -55,19 +55,20 @@ angle_read : (text : Text) (r : Result Fraction AngleError) → angle_of_text te
 angle_read text (Ok angle) e = text_read text angle e
 angle_read text (Err flaw) e = tt
 
+settings : (given : Given) → AreLimited (number_at given rounds) (number_at given scale)
+settings given =
+    let few = taken_number given rounds refl in
+    record {
+      few_rounds = grind (arith, nat_tests, few);
+      known_scale = exponent (number_at given scale) (taken_number given scale refl);
+    }
+
 limited : (name : CommandName) (given : Given) → IsWithinLimits ((form_of name).command (text_in given) (number_at given))
 unfolding form_of
 limited name.Angle given =
-    let first = taken_number given rounds refl in
-    let second = taken_number given turns refl in
-    let third = taken_number given scale refl in
+    let few = taken_number given turns refl in
     let text = text_in given fraction in
-    let numbers : AreLimited (number_at given rounds) (number_at given turns) (number_at given scale) = record {
-      few_rounds = grind (arith, nat_tests, first);
-      no_turns = grind (arith, nat_tests, second);
-      known_scale = exponent (number_at given scale) third;
-    } in
-    (angle_read text (angle_of_text text) refl, numbers)
+    (angle_read text (angle_of_text text) refl, settings given, grind (arith, nat_tests, few))
 limited name.Show given =
     let text = text_in given fraction in angle_read text (angle_of_text text) refl
 

@@ -36,6 +36,7 @@ fits name.Angle = record {
   );
   options_apart = (refl, (refl, (refl, tt)));
   defaults = (refl, (refl, (refl, (refl, tt))));
+  single = refl;
   passing = refl;
   no_help = refl;
   no_subcommand = refl;
@@ -51,6 +52,7 @@ fits name.Show = record {
   options_served = tt;
   options_apart = tt;
   defaults = (refl, tt);
+  single = refl;
   passing = refl;
   no_help = refl;
   no_subcommand = refl;

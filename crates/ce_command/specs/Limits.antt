@@ -10,13 +10,12 @@ use Rattle.ce_command.specs.declared.command.Command.TheVariants.{Angle, Show}
 abbrev pub IsRead : Result Fraction AngleError → Type 0
 IsRead angle = IfOk angle IsAngle
 
--- the numbers of a solved angle
-pub record AreLimited (rounds turns scale : ℕ) : Type 0 where
+-- the rounds and the scale of a command
+pub record AreLimited (rounds scale : ℕ) : Type 0 where
   pub few_rounds : rounds ≤ 36
-  pub no_turns : turns ≡ 0
   pub known_scale : IsExponent scale
 
--- A command's angle is one, if any, and its numbers are within their limits.
+-- A command's angle is one, if any, and its numbers are within their limits. No turn is taken yet.
 abbrev pub IsWithinLimits : Command → Type 0
-IsWithinLimits (Angle angle rounds turns scale) = IsRead angle × AreLimited rounds turns scale
+IsWithinLimits (Angle angle rounds turns scale) = IsRead angle × AreLimited rounds scale × (turns ≡ 0)
 IsWithinLimits (Show angle) = IsRead angle

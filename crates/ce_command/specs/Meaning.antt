@@ -19,7 +19,7 @@ name_of word = find (λ name. bytes_eq (form_of name).name word) all_names
 abbrev pub has_good_numbers : CommandForm → Given → Bool
 has_good_numbers form given = list_all (λ option. is_some (number_given given option)) form.options
 
--- the text of a positional word, without which clap reads no words
+-- the text of a positional word; words in which clap finds no fault have each
 abbrev pub text_in : Given → Text → Text
 text_in given id = unwrap_or (given id) []
 

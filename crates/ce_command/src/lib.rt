@@ -17,6 +17,7 @@ mod words;
 
 pub use command::{Command, WordsError};
 pub use laws::{
-    commands_are_limited, plain_words_mean_what_they_spell, words_are_no_command_for_a_cause,
+    commands_are_limited, plain_words_mean_what_they_spell, positional_words_are_there,
+    words_are_no_command_for_a_cause,
 };
 pub use words::read_words;

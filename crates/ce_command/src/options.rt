@@ -1,13 +1,9 @@
 // Options that take a number.
 ghost use Rattle.std.specs.Prelude.{◌≡◌};
-ghost use Rattle.std.specs.Char.{is_ascii_digit};
-ghost use Rattle.std.specs.List.{list_all};
-ghost use Rattle.ce_angle.specs.Typed.{is_number};
 ghost use Rattle.ce_command.specs.Options.{number_in, small_number};
 
+use ce_angle::number;
 use ce_rows::Scale;
-
-const MOST_DIGITS: usize = 10;
 
 /// The numbers that an option takes.
 #[derive(Clone, Copy, Debug, PartialEq, Eq)]
@@ -51,53 +47,19 @@ impl Numbers {
     {
         match self {
             Numbers::Between { least, most } => {
-                let number = numeral(text)?;
-                if least <= number && number <= most {
-                    Some(number)
-                } else {
-                    None
-                }
+                small(text).filter(|number| least <= *number && *number <= most)
             }
-            Numbers::Exponents => {
-                let number = numeral(text)?;
-                if Scale::new(number).is_some() {
-                    Some(number)
-                } else {
-                    None
-                }
-            }
+            Numbers::Exponents => small(text).filter(|number| Scale::new(*number).is_some()),
         }
     }
 }
 
-// The number that a text writes, where it has 32 bits.
-fn numeral(text: &str) -> Option<u32>
+// The number that a text types, where it has 32 bits.
+fn small(text: &str) -> Option<u32>
     ensures { result ≡ small_number text.now }
 {
-    if is_numeral(text.as_bytes()) {
-        text.parse().ok()
-    } else {
-        None
+    match number(text.as_bytes()) {
+        Some(number) => u32::try_from(number).ok(),
+        None => None,
     }
-}
-
-// Whether each byte is a digit.
-fn is_digits(text: &[u8]) -> bool
-    ensures { result ≡ list_all is_ascii_digit text.now }
-{
-    text.iter().all(|byte| byte.is_ascii_digit())
-}
-
-// Whether a text is digits without a leading zero, and few enough.
-fn is_numeral(text: &[u8]) -> bool
-    ensures { result ≡ is_number text.now }
-{
-    let len = text.len();
-    if len == 0 || len > MOST_DIGITS {
-        return false;
-    }
-    if len > 1 && text[0] == b'0' {
-        return false;
-    }
-    is_digits(text)
 }

@@ -1,5 +1,5 @@
 // Words by `clap`.
-ghost use Rattle.std.specs.Prelude.{◌≡◌, ◌≢◌, IfOk, map, option_map, string_bytes};
+ghost use Rattle.std.specs.Prelude.{◌≡◌, ◌≢◌, IfOk, map, string_bytes};
 ghost use Rattle.clap.specs.Words.{app_of, kind_of};
 ghost use Rattle.ce_command.specs.Form.{app_with};
 ghost use Rattle.ce_command.specs.Options.{number_given, option_form};

@@ -20,7 +20,7 @@ use Rattle.ce_cert.proofs.Extremes.{least_is, greatest_is, greatest_above, great
 use Rattle.ce_cert.proofs.High.{high_vector_bounds}
 use Rattle.ce_cert.proofs.Low.{low_vector_bounds}
 
-Contains-map : {X Y : Type 0} (f : X → Y) (xs : List X) (x : X) → Contains xs x → Contains (map f xs) (f x)
+pub Contains-map : {X Y : Type 0} (f : X → Y) (xs : List X) (x : X) → Contains xs x → Contains (map f xs) (f x)
 Contains-map f xs x h =
     (h.0, omega (arith, length-map xs f, h.1), get_or-map f xs h.0 x (f x) h.1 ∙ ap f h.2)
 
@@ -35,25 +35,25 @@ module _ {X : Type 0} (p : X → Bool) (x : X) (pass : p x ≡ true) where
   passed y xs false e (inl same) = absurd (false≢true (sym e ∙ ap p same ∙ pass))
   passed y xs false e (inr rest) = rest
 
-  Contains-filter : (xs : List X) → Contains xs x → Contains (filter p xs) x
+  pub Contains-filter : (xs : List X) → Contains xs x → Contains (filter p xs) x
   Contains-filter [] h = absurd (omega (arith, h.1))
   Contains-filter (y ∷ xs) h = passed y xs (p y) refl (elim (Contains-cases y xs x h) [
     | inl same ↦ inl same
     | inr rest ↦ inr (Contains-filter xs rest)
   ])
 
-Contains-range : (n i : ℕ) → i < n → Contains (range_with_len 0 n) i
+pub Contains-range : (n i : ℕ) → i < n → Contains (range_with_len 0 n) i
 Contains-range n i less =
     (i, omega (arith, length-range_with_len 0 n), get_or-range_with_len 0 n i i less ∙ zero-add i)
 
-All-range : (P : ℕ → Type 0) (n : ℕ) → ((i : ℕ) → i < n → P i) → All P (range_with_len 0 n)
+pub All-range : (P : ℕ → Type 0) (n : ℕ) → ((i : ℕ) → i < n → P i) → All P (range_with_len 0 n)
 All-range P n h =
     All-from_get_or P (range_with_len 0 n) 0 (λ i within.
     let less : i < n = subst (λ len. i < len) (length-range_with_len 0 n) within in
     subst P (sym (get_or-range_with_len 0 n i 0 less ∙ zero-add i)) (h i less))
 
 -- What holds of the elements that pass holds of the filtered list.
-All-passing : {X : Type 0} (p : X → Bool) (P : X → Type 0) (xs : List X) → All (λ x. p x ≡ true → P x) xs → All P (filter p xs)
+pub All-passing : {X : Type 0} (p : X → Bool) (P : X → Type 0) (xs : List X) → All (λ x. p x ≡ true → P x) xs → All P (filter p xs)
 All-passing p P xs h =
     let all = All-filter p (λ x. p x ≡ true → P x) xs h in
     λ k d within. all k d within (filter_passes p xs k d within)

@@ -1,7 +1,6 @@
-mod Two
 mod Line
 mod Causes
 mod OneAnswer
 mod Outcomes
 mod ShowRows
-mod Ones
+mod FloorEnds

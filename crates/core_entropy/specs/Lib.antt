@@ -1,7 +1,7 @@
--- In reading order: what words ask for, the bounds and the line of an angle, the text that shows an
--- orbit, the answer to words, the statuses, and what is written.
+-- In reading order: what words ask for, the initial enclosure and the line of an angle, the text that
+-- shows an orbit, the answer to words, the statuses, and what is written.
 pub mod Words
-pub mod Bounds
+pub mod Floor
 pub mod Text
 pub mod AngleLine
 pub mod Show

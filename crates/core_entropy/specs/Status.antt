@@ -1,10 +1,11 @@
 -- The statuses: their codes, their error lines, and their causes. Source: this project's choice.
-use Rattle.std.specs.Prelude.{ℕ, List, [], codes, ⊤}
+use Rattle.std.specs.Prelude.{◌≡◌, ◌⊎◌, ℕ, List, [], codes, Err, ⊤}
 use Rattle.ce_angle.specs.Fraction.{Fraction}
-use Rattle.ce_orbit.specs.Orbit.{HasOrbitWithin, HasOrbitAbove}
 use Rattle.ce_angle.specs.declared.angle.AngleError.TheVariants.{NotAFraction, ZeroDenominator, NotBelowOne, DenominatorTooLarge}
+use Rattle.ce_command.specs.declared.command.Command.{Command}
+use Rattle.ce_orbit.specs.Orbit.{HasOrbitAbove}
 use Rattle.core_entropy.specs.Text.{ended}
-use Rattle.core_entropy.specs.Words.{AsksNothing, AsksFlawed, AsksTooLong, AsksOrbit}
+use Rattle.core_entropy.specs.Words.{typed_angle, HasLongOrbit, AsksNothing, AsksFlawed, AsksTooLong, AsksOrbit}
 use Rattle.core_entropy.specs.declared.status.Status.{Status}
 use Rattle.core_entropy.specs.declared.status.Status.TheVariants.{Done, Usage, Angle, OrbitTooLong, WriteFault, NoMemory}
 
@@ -28,14 +29,18 @@ error_line OrbitTooLong = ended (codes "error: OrbitTooLong")
 error_line WriteFault = ended (codes "error: write fault")
 error_line NoMemory = ended (codes "error: no memory")
 
--- What the words ask for where a command ends with a status.
+-- What the words ask for where a command ends with a status. Out of memory is free.
 abbrev pub HasCause : List (List ℕ) → Status → Type 0
 HasCause words Usage = AsksNothing words
 HasCause words (Angle flaw) = AsksFlawed words flaw
 HasCause words OrbitTooLong = AsksTooLong words
 HasCause words Done = AsksOrbit words
 HasCause words WriteFault = AsksOrbit words
-HasCause words NoMemory = AsksOrbit words
+HasCause words NoMemory = ⊤
+
+-- A status is this one, or out of memory.
+abbrev pub IsUnlessNoMemory : Status → Status → Type 0
+IsUnlessNoMemory s status = (s ≡ status) ⊎ (s ≡ NoMemory)
 
 -- What was asked for has no answer.
 abbrev pub IsRefusal : Status → Type 0
@@ -46,14 +51,15 @@ IsRefusal Done = ⊥
 IsRefusal WriteFault = ⊥
 IsRefusal NoMemory = ⊥
 
--- A refusal that is known from the words before an orbit is made.
-abbrev pub IsRefusalOfWords : Status → Type 0
-IsRefusalOfWords Usage = ⊤
-IsRefusalOfWords (Angle flaw) = ⊤
-IsRefusalOfWords _ = ⊥
-
 -- Why an angle has no text: its orbit is too long, or memory was refused.
-abbrev pub NoText : Fraction → Status → Type 0
-NoText angle OrbitTooLong = HasOrbitAbove 128 angle
-NoText angle NoMemory = HasOrbitWithin 128 angle
-NoText angle _ = ⊥
+abbrev pub HasNoText : Fraction → Status → Type 0
+HasNoText angle OrbitTooLong = HasOrbitAbove 128 angle
+HasNoText angle NoMemory = ⊤
+HasNoText angle _ = ⊥
+
+-- Why a command has no text: its text is no angle, its orbit is too long, or memory was refused.
+abbrev pub NoText : Command → Status → Type 0
+NoText command (Angle flaw) = typed_angle command ≡ Err flaw
+NoText command OrbitTooLong = HasLongOrbit command
+NoText command NoMemory = ⊤
+NoText command _ = ⊥

@@ -1,6 +1,11 @@
-// What is true of all words. Each law stands on a function that does nothing.
-ghost use Rattle.std.specs.Prelude.{◌≡◌, ◌⊎◌, ℕ, List};
+// What is true of all words, and of the bounds that all rankings give. Each law stands on a
+// function that does nothing.
+ghost use Rattle.std.specs.Prelude.{◌≡◌, ◌≤◌, ◌⊎◌, ◌*◌, ◌^◌, ℕ, List};
 ghost use Rattle.ce_angle.specs.declared.angle.AngleError.{AngleError};
+ghost use Rattle.ce_rows.specs.Blocks.{IsRanking};
+ghost use Rattle.ce_rows.specs.Rows.{ScaledRows, AreScaledRows};
+ghost use Rattle.ce_vector.specs.PowerIteration.{power_vector};
+ghost use Rattle.ce_cert.specs.Quotients.{low_of, high_of};
 ghost use Rattle.core_entropy.specs.Answer.{IsAnswer};
 ghost use Rattle.core_entropy.specs.Words.{AsksNothing, AsksFlawed, AsksTooLong, AsksOrbit};
 
@@ -26,4 +31,13 @@ pub fn words_have_one_cause()
 pub fn answers_are_unique()
     ensures { (words : List (List ℕ)) (text other : List ℕ)
         → IsAnswer words text → IsAnswer words other → text ≡ other }
+{}
+
+/// The bounds that a vector of power iteration gives lie from one to two at the scale of the rows,
+/// whatever ranking cuts the blocks and however many rounds made the vector.
+pub fn initial_enclosures_lie_between_one_and_two()
+    ensures low { (rows : ScaledRows) → AreScaledRows rows → (ranks : List ℕ) → IsRanking rows.list ranks
+        → (rounds : ℕ) → 2 ^ rows.exponent ≤ low_of rows ranks (power_vector rows.list ranks rounds) }
+    ensures high { (rows : ScaledRows) → AreScaledRows rows → (ranks : List ℕ) → IsRanking rows.list ranks
+        → (rounds : ℕ) → high_of rows ranks (power_vector rows.list ranks rounds) ≤ 2 * 2 ^ rows.exponent }
 {}

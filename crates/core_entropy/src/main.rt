@@ -3,14 +3,14 @@
 //
 // Words come in, and one text goes out, or an error line. `run::run_command` is the whole program
 // over any sinks; its clauses say that each printed interval encloses (specs/AngleLine.antt), what
-// shows an orbit (specs/Show.antt), and which words end with which status (specs/Status.antt). The
-// way from words to text: command; then angle, bounds and text, or show; then run.
+// shows an orbit (specs/Show.antt), and which words end with which status (specs/Status.antt). What
+// words mean is said in the crate `ce_command`. The way from words to text: run; then angle, prepare
+// and text, or show; then run again.
 #![tactic(auto)]
 
 mod angle;
-mod bounds;
-mod command;
 mod laws;
+mod prepare;
 mod run;
 mod show;
 mod status;

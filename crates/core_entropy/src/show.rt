@@ -9,7 +9,7 @@ ghost use Rattle.core_entropy.specs.Show.{IsShowText, show_text, angle_heading, 
 ghost use Rattle.core_entropy.specs.Show.{orbit_line, place_text, symbols_line, symbol_text};
 ghost use Rattle.core_entropy.specs.Show.{rows_text, row_line};
 ghost use Rattle.core_entropy.specs.Text.{ended};
-ghost use Rattle.core_entropy.specs.Status.{NoText};
+ghost use Rattle.core_entropy.specs.Status.{HasNoText};
 
 use crate::status::Status;
 use ce_angle::Angle;
@@ -187,7 +187,7 @@ fn text_of_orbit(alloc: Global, orbit: &Orbit) -> Result<String, NoMemory>
 pub fn show_of_angle(alloc: Global, angle: Angle) -> Result<String, Status>
     ensures text { IfOk result (λ text. IsShowText angle (string_bytes text)) }
     ensures orbit { IfOk result (λ _. HasOrbitWithin 128 angle) }
-    ensures none { IfErr result (NoText angle) }
+    ensures none { IfErr result (HasNoText angle) }
 {
     let Ok(orbit) = Orbit::of(angle) else {
         return Err(Status::OrbitTooLong);

@@ -57,20 +57,34 @@ fn expect_run(
 #[test]
 fn angles_have_their_lines(rt: HostRuntime) -> Result<(), Fail> {
     let table = [
-        ("angle 1/4", "angle 1/4 low 4294967296 high 8589934592\n"),
-        ("angle 2/8", "angle 1/4 low 4294967296 high 8589934592\n"),
-        ("angle 1/2", "angle 1/2 low 8589934592 high 8589934592\n"),
-        ("angle 0/1", "angle 0/1 low 4294967296 high 4294967296\n"),
-        ("angle 1/3", "angle 1/3 low 4294967296 high 4294967296\n"),
-        ("angle 1/7", "angle 1/7 low 4294967296 high 4294967296\n"),
-        ("angle 2/5", "angle 2/5 low 4294967296 high 8589934592\n"),
+        ("0/1", "0/1 low 4294967296 high 4294967296"),
+        ("1/2", "1/2 low 8589934592 high 8589934592"),
+        ("1/3", "1/3 low 4294967296 high 4294967296"),
+        ("1/4", "1/4 low 7282635751 high 7282635752"),
+        ("1/5", "1/5 low 5992926757 high 5992926759"),
+        ("2/5", "2/5 low 4294967296 high 4294967296"),
+        ("1/6", "1/6 low 6534276085 high 6534276086"),
+        ("1/7", "1/7 low 4294967296 high 4294967296"),
+        ("13/31", "13/31 low 6497754638 high 6497754660"),
+        ("1/4 --rounds 0", "1/4 low 4294967296 high 8589934592"),
+        ("1/4 --rounds 1", "1/4 low 6442450944 high 8589934592"),
+        ("1/4 --rounds 2", "1/4 low 6979321856 high 7730941133"),
+        ("1/4 --rounds=2 --turns 0", "1/4 low 6979321856 high 7730941133"),
+        ("--rounds 2 -- 2/8", "1/4 low 6979321856 high 7730941133"),
+        ("1/5 --rounds 1", "1/5 low 4294967296 high 7158278827"),
         (
-            "angle 1/448790528",
-            "angle 1/448790528 low 4294967296 high 8589934592\n",
+            "1/4 --rounds 2 --turns 0 --scale 48",
+            "1/4 scale 48 low 457396837154816 high 506654958079181",
+        ),
+        (
+            "1/4 --scale=48",
+            "1/4 scale 48 low 477274816621909 high 477274816621998",
         ),
     ];
-    for (line, want) in table {
-        expect_run(&rt, line, 0, want, "")?;
+    for (words, want) in table {
+        let line = format!(in rt.alloc(); "angle {words}")?;
+        let out = format!(in rt.alloc(); "angle {want}\n")?;
+        expect_run(&rt, line.as_str(), 0, out.as_str(), "")?;
     }
     Ok(())
 }
@@ -105,19 +119,21 @@ fn refusals_have_their_codes_and_lines(rt: HostRuntime) -> Result<(), Fail> {
         ("angel 1/4", 2, "error: usage\n"),
         ("angle", 2, "error: usage\n"),
         ("angle 1/4 x", 2, "error: usage\n"),
-        ("angle 5/4", 3, "error: NotBelowOne\n"),
+        ("angle --help", 2, "error: usage\n"),
+        ("angle -1/4", 2, "error: usage\n"),
+        ("angle 1/4 --rounds 37", 2, "error: usage\n"),
+        ("angle 5/4 --rounds 37", 2, "error: usage\n"),
+        ("show 1/4 --rounds 1", 2, "error: usage\n"),
+        ("angle 5/4 --rounds 3", 3, "error: NotBelowOne\n"),
         ("angle 1/0", 3, "error: ZeroDenominator\n"),
         ("angle 3/0", 3, "error: ZeroDenominator\n"),
         ("angle 01/4", 3, "error: NotAFraction\n"),
-        ("angle x", 3, "error: NotAFraction\n"),
-        ("angle 1/4/", 3, "error: NotAFraction\n"),
-        ("angle +1/4", 3, "error: NotAFraction\n"),
+        ("angle -", 3, "error: NotAFraction\n"),
+        ("angle -- -1/4", 3, "error: NotAFraction\n"),
         ("angle ", 3, "error: NotAFraction\n"),
         ("angle 1/2147483649", 3, "error: DenominatorTooLarge\n"),
         ("angle 1/131", 3, "error: OrbitTooLong\n"),
         ("angle 1/897581056", 3, "error: OrbitTooLong\n"),
-        ("show", 2, "error: usage\n"),
-        ("show 1/4 x", 2, "error: usage\n"),
         ("show 5/4", 3, "error: NotBelowOne\n"),
         ("show 1/897581056", 3, "error: OrbitTooLong\n"),
     ];
@@ -160,8 +176,8 @@ fn expect_prefixes(
 
 #[test]
 fn a_failing_output_has_a_prefix_of_the_text(rt: HostRuntime) -> Result<(), Fail> {
-    let line = "angle 1/4 low 4294967296 high 8589934592\n";
-    expect_prefixes(&rt, "angle 1/4", line, 5, 9)?;
+    let line = "angle 1/2 low 8589934592 high 8589934592\n";
+    expect_prefixes(&rt, "angle 1/2", line, 5, 9)?;
     expect_prefixes(&rt, "show 1/6", SHOWN, 7, 20)
 }
 

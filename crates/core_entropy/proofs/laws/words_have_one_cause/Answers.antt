@@ -1,18 +1,15 @@
-use Rattle.core_entropy.proofs.Causes.{one_flaw, flaw_or_angle, long_or_short}
+use Rattle.core_entropy.proofs.Causes.{nothing_or_command, one_flaw, flaw_or_long, flaw_or_orbit, long_or_short}
 use Rattle.core_entropy.proofs.laws.words_have_one_cause.Goals as goal
 
 pub returns-clause-no_command : goal.returns-clause-no_command
 returns-clause-no_command c = λ words none. (
-  λ flaw h. none h.the_task h.text h.asks,
-  λ h. none h.the_task h.asks.text h.asks.asks,
-  λ h. none h.the_task h.asks.text h.asks.asks,
+  λ flaw h. nothing_or_command words h.command none h.means,
+  λ h. nothing_or_command words h.command none h.means,
+  λ h. nothing_or_command words h.command none h.means,
 )
 
 pub returns-clause-flawed : goal.returns-clause-flawed
-returns-clause-flawed c = λ words flaw h. (
-  λ k. flaw_or_angle words k.the_task k.angle flaw h k.asks,
-  λ k. flaw_or_angle words k.the_task k.angle flaw h k.asks,
-)
+returns-clause-flawed c = λ words flaw h. (flaw_or_long words flaw h, flaw_or_orbit words flaw h)
 
 pub returns-clause-one_flaw : goal.returns-clause-one_flaw
 returns-clause-one_flaw c = one_flaw

@@ -1,23 +1,23 @@
 -- Events of a run: what a step of an actor does to the state that all actors share. Source:
 -- [ChazanMiranker1969] for the asynchronous iteration; the words and their steps are this project's
 -- choice.
-use Rattle.std.specs.Prelude.{ℕ, max, min, List, slice_index, slice_set}
+use Rattle.std.specs.Prelude.{ℕ, ⊤, ◌<◌, max, min, List, slice_index, slice_set}
 use Rattle.ce_rows.specs.declared.event.Event.{Event}
 use Rattle.ce_rows.specs.declared.event.Event.TheVariants.{Load, Relax, Shrink, Low, High, Raise, Lower, Shift, Ask, Halted, Stop}
 
 -- what an event does, whoever does it
 pub data Act : Type 0 where
-  loads : ℕ → Act
-  relaxes : ℕ → Act
-  shrinks : ℕ → Act
-  loads_low : Act
-  loads_high : Act
-  raises : Act
-  lowers : Act
-  loads_shift : Act
-  asks : Act
-  loads_stop : Act
-  stops : Act
+  Loads : ℕ → Act
+  Relaxes : ℕ → Act
+  Shrinks : ℕ → Act
+  LoadsLow : Act
+  LoadsHigh : Act
+  Raises : Act
+  Lowers : Act
+  LoadsShift : Act
+  Asks : Act
+  LoadsStop : Act
+  Stops : Act
 
 -- an event is an act of an actor
 abbrev pub actor_of : Event → ℕ
@@ -34,17 +34,24 @@ actor_of (Halted actor) = actor
 actor_of (Stop actor) = actor
 
 abbrev pub act_of : Event → Act
-act_of (Load _ entry) = loads entry
-act_of (Relax _ entry) = relaxes entry
-act_of (Shrink _ entry) = shrinks entry
-act_of (Low _) = loads_low
-act_of (High _) = loads_high
-act_of (Raise _) = raises
-act_of (Lower _) = lowers
-act_of (Shift _) = loads_shift
-act_of (Ask _) = asks
-act_of (Halted _) = loads_stop
-act_of (Stop _) = stops
+act_of (Load _ entry) = Loads entry
+act_of (Relax _ entry) = Relaxes entry
+act_of (Shrink _ entry) = Shrinks entry
+act_of (Low _) = LoadsLow
+act_of (High _) = LoadsHigh
+act_of (Raise _) = Raises
+act_of (Lower _) = Lowers
+act_of (Shift _) = LoadsShift
+act_of (Ask _) = Asks
+act_of (Halted _) = LoadsStop
+act_of (Stop _) = Stops
+
+-- The entry that an event names, if it names one, is below a number.
+abbrev pub HasEntryBelow : ℕ → Event → Type 0
+HasEntryBelow count (Load _ entry) = entry < count
+HasEntryBelow count (Relax _ entry) = entry < count
+HasEntryBelow count (Shrink _ entry) = entry < count
+HasEntryBelow count _ = ⊤
 
 -- the entries of the vector, the bounds, the count of rescalings that were asked for, and the stop
 -- word, which is 0 or 1
@@ -59,24 +66,24 @@ pub record Shared : Type 0 where
 -- compared with the word, the count that is asked for, and 1 where the stop word is to be set. The
 -- low bound, the count and the stop word only rise, and the high bound only falls.
 abbrev pub after_act : Shared → Act → ℕ → Shared
-after_act s (relaxes i) number = record s { entries = slice_set s.entries i number }
-after_act s (shrinks i) number = record s { entries = slice_set s.entries i number }
-after_act s raises number = record s { low = max s.low number }
-after_act s lowers number = record s { high = min s.high number }
-after_act s asks number = record s { shift = max s.shift number }
-after_act s stops number = record s { stop = max s.stop number }
+after_act s (Relaxes i) number = record s { entries = slice_set s.entries i number }
+after_act s (Shrinks i) number = record s { entries = slice_set s.entries i number }
+after_act s Raises number = record s { low = max s.low number }
+after_act s Lowers number = record s { high = min s.high number }
+after_act s Asks number = record s { shift = max s.shift number }
+after_act s Stops number = record s { stop = max s.stop number }
 after_act s _ _ = s
 
 -- what the act answers: what was loaded, or what stands there afterwards
 abbrev pub answer_of : Shared → Act → ℕ → ℕ
-answer_of s (loads i) _ = slice_index s.entries i
-answer_of s (relaxes i) number = number
-answer_of s (shrinks i) number = number
-answer_of s loads_low _ = s.low
-answer_of s loads_high _ = s.high
-answer_of s raises number = max s.low number
-answer_of s lowers number = min s.high number
-answer_of s loads_shift _ = s.shift
-answer_of s asks number = max s.shift number
-answer_of s loads_stop _ = s.stop
-answer_of s stops number = max s.stop number
+answer_of s (Loads i) _ = slice_index s.entries i
+answer_of s (Relaxes i) number = number
+answer_of s (Shrinks i) number = number
+answer_of s LoadsLow _ = s.low
+answer_of s LoadsHigh _ = s.high
+answer_of s Raises number = max s.low number
+answer_of s Lowers number = min s.high number
+answer_of s LoadsShift _ = s.shift
+answer_of s Asks number = max s.shift number
+answer_of s LoadsStop _ = s.stop
+answer_of s Stops number = max s.stop number

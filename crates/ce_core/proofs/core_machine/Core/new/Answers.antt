@@ -1,0 +1,39 @@
+use Rattle.std.proofs.Common.{◌≡◌, ◌∙◌, ◌*◌, ◌^◌, ℕ, List, length, replicate, map, sym, ap, subst}
+use Rattle.std.proofs.lemmas.List.{length-map, length-replicate}
+use Rattle.ce_rows.specs.Events.{Shared}
+use Rattle.ce_core.specs.Fields.{shared_of, kept_of}
+use Rattle.ce_core.specs.Machine.{Kept, Machine, machine_at_start}
+use Rattle.ce_core.specs.Sound.{IsSound}
+use Rattle.ce_core.specs.State.{CoreState}
+use Rattle.ce_core.specs.Runs.{HasAskedAtMost}
+use Rattle.ce_core.proofs.Asked.{asked_at_start}
+use Rattle.ce_core.proofs.Runs.{start_sound}
+use Rattle.ce_core.proofs.Steps.{machine_of, made}
+use Rattle.ce_core.proofs.core_machine.Core.new.Goals as goal
+
+pub invariant_of-result : goal.invariant_of-result
+invariant_of-result c =
+    let rows = c.args.rows.now in
+    let floor = c.args.floor in
+    let new = made 16 c.in_ok-entries.entries.items c.args.start.now floor.low floor.high (map kept_of c.in_ok-actors_at_start.field-0.items) c.in_ok-entries.ensures.items c.in_ok-actors_at_start.ensures in
+    let sound = start_sound rows c.args.start.now floor.low floor.high (2 ^ rows.exponent) (2 * 2 ^ rows.exponent) 16 c.requires.start c.requires.floor c.requires.low c.requires.high in
+    record {
+      rows = c.len-len.ensures.rows;
+      ranking = c.requires.ranking;
+      actors = sym (length-map c.in_ok-actors_at_start.field-0.items kept_of) ∙ ap length c.in_ok-actors_at_start.ensures ∙ length-replicate {A = Kept} 16 (record { copy = c.args.start.now; low = floor.low; high = floor.high; shift = 0 });
+      scratch = c.in_ok-from_slice.ensures.len ∙ c.requires.start.each;
+      sound = subst (IsSound rows (2 ^ rows.exponent) (2 * 2 ^ rows.exponent)) (sym new) sound;
+    }
+
+pub returns-clause-machine : goal.returns-clause-machine
+returns-clause-machine c =
+    let floor = c.args.floor in
+    let new = made 16 c.in_ok-entries.entries.items c.args.start.now floor.low floor.high (map kept_of c.in_ok-actors_at_start.field-0.items) c.in_ok-entries.ensures.items c.in_ok-actors_at_start.ensures in
+    let state : Machine → CoreState = λ n. record { rows = c.args.rows.now; ranks = c.args.ranks.now; machine = n } in
+    ap state new
+
+pub returns-clause-asked : goal.returns-clause-asked
+returns-clause-asked c =
+    let floor = c.args.floor in
+    let new = made 16 c.in_ok-entries.entries.items c.args.start.now floor.low floor.high (map kept_of c.in_ok-actors_at_start.field-0.items) c.in_ok-entries.ensures.items c.in_ok-actors_at_start.ensures in
+    subst (HasAskedAtMost 0) (sym new) (asked_at_start 16 c.args.start.now floor.low floor.high)

@@ -1,0 +1,38 @@
+-- Runs of the machine: lists of events from a start.
+use Rattle.std.specs.Prelude.{ℕ, ◌<◌, ◌≤◌, List, All, fold}
+use Rattle.ce_rows.specs.Blocks.{IsRanking}
+use Rattle.ce_rows.specs.Events.{Shared, actor_of}
+use Rattle.ce_rows.specs.Rows.{ScaledRows, AreScaledRows, EnclosesRows}
+use Rattle.ce_rows.specs.declared.event.Event.{Event}
+use Rattle.ce_cert.specs.Vectors.{IsVectorOf}
+use Rattle.ce_core.specs.Machine.{Kept, Machine, machine_at_start, after_event}
+
+abbrev pub after_events : ScaledRows → List ℕ → Machine → List Event → Machine
+after_events rows ranks m events = fold (after_event rows ranks) m events
+
+-- A ranking, a vector and an interval that encloses, called the floor, are where a run may start.
+pub record IsStart (rows : ScaledRows) (ranks start : List ℕ) (low high : ℕ) : Type 0 where
+  pub scaled : AreScaledRows rows
+  pub ranking : IsRanking rows.list ranks
+  pub vector : IsVectorOf rows start
+  pub encloses : EnclosesRows rows low high
+
+-- All events are by one of the first actors, so many.
+abbrev pub AreBy : ℕ → List Event → Type 0
+AreBy count events = All (λ event. actor_of event < count) events
+
+-- what so many actors share after events from a start
+abbrev pub shared_after : ScaledRows → List ℕ → ℕ → List ℕ → ℕ → ℕ → List Event → Shared
+shared_after rows ranks count start low high events =
+    (after_events rows ranks (machine_at_start count start low high) events).shared
+
+-- The interval of a state lies between two numbers.
+pub record LiesWithin (low high : ℕ) (s : Shared) : Type 0 where
+  pub from : low ≤ s.low
+  pub to : s.high ≤ high
+
+-- Neither the count of rescalings that were asked for, nor what an actor last saw of it, is above a
+-- number.
+pub record HasAskedAtMost (count : ℕ) (m : Machine) : Type 0 where
+  pub word : m.shared.shift ≤ count
+  pub seen : All (λ (own : Kept). own.shift ≤ count) m.actors

@@ -1,0 +1,25 @@
+-- What every event keeps: the bounds enclose, and what actors saw of them is no better than they
+-- are.
+use Rattle.std.specs.Prelude.{ℕ, ◌≡◌, ◌≤◌, All}
+use Rattle.ce_rows.specs.Events.{Shared}
+use Rattle.ce_rows.specs.Rows.{ScaledRows, EnclosesRows}
+use Rattle.ce_cert.specs.Vectors.{IsVectorOf}
+use Rattle.ce_core.specs.Machine.{Kept, Machine}
+
+-- The bounds that an actor saw lie between two ends, and hold the shared bounds between them.
+pub record HasSeen (rows : ScaledRows) (bottom top : ℕ) (s : Shared) (own : Kept) : Type 0 where
+  pub vector : IsVectorOf rows own.copy
+  pub from : bottom ≤ own.low
+  pub low : own.low ≤ s.low
+  pub high : s.high ≤ own.high
+  pub to : own.high ≤ top
+
+-- Where the stop word is set, the bounds are equal.
+pub record IsSound (rows : ScaledRows) (bottom top : ℕ) (m : Machine) : Type 0 where
+  pub vector : IsVectorOf rows m.shared.entries
+  pub encloses : EnclosesRows rows m.shared.low m.shared.high
+  pub from : bottom ≤ m.shared.low
+  pub to : m.shared.high ≤ top
+  pub actors : All (HasSeen rows bottom top m.shared) m.actors
+  pub stop : m.shared.stop ≤ 1
+  pub stopped : m.shared.stop ≡ 1 → m.shared.low ≡ m.shared.high

@@ -1,6 +1,7 @@
 -- The least and the greatest of a list.
-use Rattle.std.proofs.Common.{◌≡◌, ◌<◌, ◌≤◌, ℕ, min, max, List, [], ◌∷◌, length, arith}
+use Rattle.std.proofs.Common.{◌≡◌, ◌<◌, ◌≤◌, ◌⊎◌, inl, inr, refl, ℕ, zero, suc, min, max, List, [], ◌∷◌, length, arith}
 use Rattle.std.specs.Prelude.{All, Contains, fold}
+use Rattle.std.proofs.lemmas.Bool.{cases_lt}
 use Rattle.std.proofs.lemmas.List.Elements.{All-nil, All-cons, All-head, All-tail, All-contains}
 use Rattle.ce_cert.specs.Quotients.{least, greatest}
 
@@ -54,3 +55,29 @@ least_is (y ∷ xs) x among above =
     let head = All-head (λ z. x ≤ z) y xs above in
     let more = min_at_least x xs y head (All-tail (λ z. x ≤ z) y xs above) in
     omega (arith, below, more)
+
+pub least_below : (xs : List ℕ) (x : ℕ) → Contains xs x → least xs ≤ x
+unfolding least
+least_below [] x among = absurd (omega (arith, among.1))
+least_below (y ∷ xs) x among =
+    All-contains (λ z. fold min y xs ≤ z) (y ∷ xs) x (All-cons (λ z. fold min y xs ≤ z) y xs (min_first xs y) (min_all xs y)) among
+
+skip : (x y : ℕ) (xs : List ℕ) (z : ℕ) → Contains (x ∷ xs) z → Contains (x ∷ y ∷ xs) z
+skip x y xs z (zero, within, here) = (0, omega arith, here)
+skip x y xs z (suc k, within, here) = (suc (suc k), omega (arith, within), here)
+
+max_reached : (xs : List ℕ) (x : ℕ) → Contains (x ∷ xs) (fold max x xs)
+max_reached [] x = (0, omega arith, refl)
+max_reached (y ∷ xs) x = elim (cases_lt x y) [
+  | inl less ↦
+      let same : max x y ≡ y = omega arith in
+      let (k, within, here) = max_reached xs y in
+      rw same (suc k, omega (arith, within), here)
+  | inr most ↦
+      let same : max x y ≡ x = omega arith in rw same (skip x y xs (fold max x xs) (max_reached xs x))
+]
+
+pub greatest_attained : (xs : List ℕ) → 0 < length xs → Contains xs (greatest xs)
+unfolding greatest
+greatest_attained [] h = absurd (omega arith)
+greatest_attained (x ∷ xs) h = let same : max 0 x ≡ x = omega arith in rw same (max_reached xs x)

@@ -8,3 +8,4 @@ pub mod Enclose
 pub mod Kept
 pub mod Extremes
 pub mod BoundsOf
+pub mod Defined

@@ -24,7 +24,7 @@ mod tests;
 pub use block::block_sum;
 pub use event::Event;
 pub use interval::Interval;
-pub use laws::low_is_at_most_high;
+pub use laws::{block_images_are_the_block_successors, low_is_at_most_high};
 pub use maker::RowsMaker;
 pub use no_memory::NoMemory;
 pub use ranking::is_ranking;

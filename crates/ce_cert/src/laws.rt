@@ -20,8 +20,8 @@ pub fn high_vectors_bound()
         → All (λ x. 1 ≤ x) w → IsHighVector rows ranks w high → IsUpperBoundOf rows high }
 {}
 
-/// A row has at most two successors, so 2 is a growth upper bound of all rows, and so is each number
-/// above it.
+/// A row has at most two successors, so 2 is a growth upper bound of all rows, and so is each
+/// number above it.
 pub fn two_is_an_upper_bound()
     ensures { (rows : ScaledRows) → AreScaledRows rows → (high : ℕ)
         → 2 * 2 ^ rows.exponent ≤ high → IsUpperBoundOf rows high }

@@ -1,9 +1,9 @@
-// Collatz-Wielandt bounds of a vector, and certificates that an interval encloses the growth rate of
-// rows.
+// Collatz-Wielandt bounds of a vector, and certificates that an interval encloses the growth rate
+// of rows.
 //
 // A ranking and a vector give `bounds`, whatever the vector is; ranks, two vectors and an interval
-// are a `Certificate`, which `check` accepts exactly where it holds for the rows. The main facts are
-// `bounds`'s clauses `below` and `above`, and the law `certificates_enclose`.
+// are a `Certificate`, which `check` accepts exactly where it holds for the rows. The main facts
+// are `bounds`'s clauses `below` and `above`, and the law `certificates_enclose`.
 #![tactic(auto)]
 
 mod certificate;

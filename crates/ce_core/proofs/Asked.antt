@@ -1,10 +1,10 @@
 -- The count of rescalings that were asked for rises by at most one with each event.
-use Rattle.std.proofs.Common.{◌≡◌, ◌≤◌, ◌<◌, ◌+◌, ℕ, List, [], length, get_or, max, sym, subst, inl, inr, arith}
+use Rattle.std.proofs.Common.{◌≤◌, ◌+◌, ℕ, List, [], length, get_or, sym, subst, inl, inr, arith}
 use Rattle.std.specs.Prelude.{All}
 use Rattle.std.proofs.lemmas.Bool.{cases_lt}
 use Rattle.std.proofs.lemmas.List.{get_or_past}
 use Rattle.std.proofs.lemmas.List.Elements.{All-set, All-get_or, All-weaker, All-replicate}
-use Rattle.ce_rows.specs.Events.{Act, Loads, Relaxes, Shrinks, LoadsLow, LoadsHigh, Raises, Lowers, LoadsShift, Asks, LoadsStop, Stops, Shared, actor_of, act_of, after_act, answer_of}
+use Rattle.ce_rows.specs.Events.{Act, LoadsShift, Asks, Shared, actor_of, act_of, after_act, answer_of}
 use Rattle.ce_rows.specs.Rows.{ScaledRows}
 use Rattle.ce_rows.specs.declared.event.Event.{Event}
 use Rattle.ce_core.specs.Machine.{Kept, Machine, kept_by, carried, after_answer, answer_to, after_event, machine_at_start}

@@ -1,18 +1,17 @@
 -- What one event does to the enclosure: the bounds still enclose and only narrow, and what each
 -- actor saw is still true.
-use Rattle.std.proofs.Common.{◌≡◌, ◌≤◌, ◌<◌, ◌+◌, ◌*◌, ◌/◌, ◌^◌, ◌∙◌, ◌⊎◌, inl, inr, ℕ, Bool, true, false, cond, min, max, List, [], ◌∷◌, length, get_or, refl, sym, ap, subst, arith}
-use Rattle.std.specs.Prelude.{All, if◌then◌else◌, ◌==◌, slice_set}
+use Rattle.std.proofs.Common.{◌≡◌, ◌≤◌, ◌<◌, ◌^◌, ◌∙◌, ◌⊎◌, inl, inr, ℕ, Bool, true, false, min, max, List, [], length, get_or, refl, sym, subst, arith}
+use Rattle.std.specs.Prelude.{if◌then◌else◌, ◌==◌, slice_set}
 use Rattle.std.proofs.lemmas.Bool.{cases_lt, eqb-true}
 use Rattle.std.proofs.lemmas.List.{length-set, set_past}
 use Rattle.std.proofs.lemmas.List.Elements.{All-set, All-get_or, All-weaker}
 use Rattle.ce_rows.specs.Blocks.{IsRanking}
-use Rattle.ce_rows.specs.Events.{Act, Loads, Relaxes, Shrinks, LoadsLow, LoadsHigh, Raises, Lowers, LoadsShift, Asks, LoadsStop, Stops, Shared, actor_of, act_of, after_act, answer_of}
-use Rattle.ce_rows.specs.Growth.{Encloses}
-use Rattle.ce_rows.specs.Rows.{ScaledRows, AreScaledRows, IsLowerBoundOf, IsUpperBoundOf, EnclosesRows}
+use Rattle.ce_rows.specs.Events.{Act, Loads, Relaxes, Shrinks, LoadsLow, LoadsHigh, Raises, Lowers, Stops, Shared, actor_of, act_of, after_act, answer_of}
+use Rattle.ce_rows.specs.Rows.{ScaledRows, AreScaledRows, IsLowerBoundOf, IsUpperBoundOf}
 use Rattle.ce_rows.specs.declared.event.Event.{Event}
 use Rattle.ce_rows.proofs.Blocks.{entry_at_most}
 use Rattle.ce_rows.proofs.Rates.{low_at_most_high_of_rows}
-use Rattle.ce_vector.specs.Relaxation.{relaxed, rescaled}
+use Rattle.ce_vector.specs.Relaxation.{rescaled}
 use Rattle.ce_cert.specs.Quotients.{low_of, high_of}
 use Rattle.ce_cert.specs.Vectors.{IsVectorOf}
 use Rattle.ce_cert.proofs.Defined.{low_is_lower_bound, high_is_upper_bound}

@@ -1,12 +1,11 @@
 -- What holds after every list of events.
-use Rattle.std.proofs.Common.{◌≡◌, ◌≤◌, ◌<◌, ◌+◌, ◌∙◌, ℕ, List, [], ◌∷◌, ◌++◌, length, replicate, refl, sym, ap, subst, arith}
+use Rattle.std.proofs.Common.{◌≡◌, ◌≤◌, ◌<◌, ◌∙◌, ℕ, List, [], ◌∷◌, ◌++◌, length, refl, sym, subst, arith}
 use Rattle.std.specs.Prelude.{All}
-use Rattle.std.specs.List.{fold}
 use Rattle.std.proofs.lemmas.Grind.{fold-append}
 use Rattle.std.proofs.lemmas.List.{length-replicate}
 use Rattle.std.proofs.lemmas.List.Elements.{All-replicate, All-head, All-tail, All-nil, All-cons}
 use Rattle.ce_rows.specs.Blocks.{IsRanking}
-use Rattle.ce_rows.specs.Events.{Shared, actor_of}
+use Rattle.ce_rows.specs.Events.{actor_of}
 use Rattle.ce_rows.specs.Rows.{ScaledRows, AreScaledRows, EnclosesRows}
 use Rattle.ce_rows.specs.declared.event.Event.{Event}
 use Rattle.ce_cert.specs.Vectors.{IsVectorOf}

@@ -1,10 +1,9 @@
 -- The code's step on its fields is one event of the machine.
-use Rattle.std.proofs.Common.{◌≡◌, ◌≤◌, ◌<◌, ◌*◌, ◌^◌, ◌∙◌, ℕ, List, [], length, get_or, set, map, replicate, refl, sym, ap, subst, arith}
-use Rattle.std.proofs.lemmas.List.{get_or-map, map-set, length-map, length-set}
+use Rattle.std.proofs.Common.{◌≡◌, ◌<◌, ◌*◌, ◌^◌, ◌∙◌, ℕ, List, [], length, get_or, set, map, replicate, sym, ap, subst, arith}
+use Rattle.std.proofs.lemmas.List.{get_or-map, map-set}
 use Rattle.std.proofs.lemmas.List.Elements.{All-get_or}
-use Rattle.ce_rows.specs.Blocks.{IsRanking}
-use Rattle.ce_rows.specs.Events.{Act, Shared, actor_of, act_of, after_act, answer_of}
-use Rattle.ce_rows.specs.Rows.{ScaledRows, AreScaledRows}
+use Rattle.ce_rows.specs.Events.{Shared, actor_of, act_of, after_act, answer_of}
+use Rattle.ce_rows.specs.Rows.{ScaledRows}
 use Rattle.ce_rows.specs.declared.event.Event.{Event}
 use Rattle.ce_rows.proofs.Rates.{low_at_most_high_of_rows}
 use Rattle.ce_core.specs.Fields.{shared_of, kept_of, HasBoundsInRange}
@@ -14,7 +13,6 @@ use Rattle.ce_core.specs.Sound.{HasSeen, IsSound}
 use Rattle.ce_core.specs.declared.actor.Actor.{Actor}
 use Rattle.ce_core.specs.declared.core_machine.Core.TheInside.{Inside}
 use Rattle.ce_core.specs.declared.words.Words.{Words}
-use Rattle.ce_core.proofs.Events.{event_keeps}
 
 -- a machine by its parts
 abbrev pub machine_of : Shared → List Kept → Machine

@@ -1,4 +1,4 @@
--- Runs of the machine: lists of events from a start.
+-- Runs of the machine: lists of events from a start. Source: this project's choice.
 use Rattle.std.specs.Prelude.{ℕ, ◌<◌, ◌≤◌, List, All, fold}
 use Rattle.ce_rows.specs.Blocks.{IsRanking}
 use Rattle.ce_rows.specs.Events.{Shared, actor_of}

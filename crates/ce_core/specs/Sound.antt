@@ -1,5 +1,5 @@
 -- What every event keeps: the bounds enclose, and what actors saw of them is no better than they
--- are.
+-- are. Source: this project's choice.
 use Rattle.std.specs.Prelude.{ℕ, ◌≡◌, ◌≤◌, All}
 use Rattle.ce_rows.specs.Events.{Shared}
 use Rattle.ce_rows.specs.Rows.{ScaledRows, EnclosesRows}

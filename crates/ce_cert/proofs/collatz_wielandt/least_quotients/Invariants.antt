@@ -1,4 +1,4 @@
-use Rattle.std.proofs.Common.{◌≡◌, ◌<◌, ℕ, length}
+use Rattle.std.proofs.Common.{◌<◌, ℕ, length}
 use Rattle.std.specs.Prelude.{slice_index}
 use Rattle.ce_cert.specs.Passes.{IsLeastUpTo}
 use Rattle.ce_cert.proofs.collatz_wielandt.least_quotients.Given as goal

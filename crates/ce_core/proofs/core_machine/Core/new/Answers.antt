@@ -1,14 +1,13 @@
-use Rattle.std.proofs.Common.{◌≡◌, ◌∙◌, ◌*◌, ◌^◌, ℕ, List, length, replicate, map, sym, ap, subst}
+use Rattle.std.proofs.Common.{◌∙◌, ◌*◌, ◌^◌, length, map, sym, ap, subst}
 use Rattle.std.proofs.lemmas.List.{length-map, length-replicate}
-use Rattle.ce_rows.specs.Events.{Shared}
-use Rattle.ce_core.specs.Fields.{shared_of, kept_of}
-use Rattle.ce_core.specs.Machine.{Kept, Machine, machine_at_start}
+use Rattle.ce_core.specs.Fields.{kept_of}
+use Rattle.ce_core.specs.Machine.{Kept, Machine}
 use Rattle.ce_core.specs.Sound.{IsSound}
 use Rattle.ce_core.specs.State.{CoreState}
 use Rattle.ce_core.specs.Runs.{HasAskedAtMost}
 use Rattle.ce_core.proofs.Asked.{asked_at_start}
 use Rattle.ce_core.proofs.Runs.{start_sound}
-use Rattle.ce_core.proofs.Steps.{machine_of, made}
+use Rattle.ce_core.proofs.Steps.{made}
 use Rattle.ce_core.proofs.core_machine.Core.new.Goals as goal
 
 pub invariant_of-result : goal.invariant_of-result

@@ -71,6 +71,8 @@ limited name.Angle given =
     (angle_read text (angle_of_text text) refl, settings given, grind (arith, nat_tests, few))
 limited name.Show given =
     let text = text_in given fraction in angle_read text (angle_of_text text) refl
+limited name.Replay given =
+    let text = text_in given fraction in (angle_read text (angle_of_text text) refl, settings given)
 
 some_if : (b : Bool) (made command : Command) → (if b then Some made else None) ≡ Some command → made ≡ command
 some_if true made command e = cc

@@ -57,3 +57,9 @@ pub show_made : (given : Given) (angle : Result Fraction AngleError) → angle �
     → Some (command.Show angle) ≡ command_from (form_of name.Show) given
 unfolding form_of
 show_made given angle read = rw read refl
+
+pub replay_made : (given : Given) (angle : Result Fraction AngleError) (r s : ℕ) → angle ≡ angle_of_text (text_in given fraction)
+    → Some r ≡ number_given given rounds → Some s ≡ number_given given scale
+    → Some (command.Replay angle r s) ≡ command_from (form_of name.Replay) given
+unfolding form_of
+replay_made given angle r s read first second = rw (read, ← first, ← second) refl

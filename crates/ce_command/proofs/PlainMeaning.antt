@@ -59,12 +59,35 @@ fits name.Show = record {
   free = refl;
   required = refl;
 }
+fits name.Replay = record {
+  simple = refl;
+  named = refl;
+  leaf = refl;
+  serves = (refl, refl, refl, tt);
+  fresh = (refl, λ v. tt);
+  options_served = (
+    record { name = record { whole = refl; no_equals = refl; nonempty = refl }; long = refl; by_id = refl },
+    (
+      record { name = record { whole = refl; no_equals = refl; nonempty = refl }; long = refl; by_id = refl },
+      tt,
+    ),
+  );
+  options_apart = (refl, (refl, tt));
+  defaults = (refl, (refl, (refl, tt)));
+  single = refl;
+  passing = refl;
+  no_help = refl;
+  no_subcommand = refl;
+  free = refl;
+  required = refl;
+}
 
 -- a name is its own command's
 pub named : (name : CommandName) → name_of (form_of name).name ≡ Some name
 unfolding form_of
 named name.Angle = refl
 named name.Show = refl
+named name.Replay = refl
 
 first_given : (s : Shape) (id : Text) (pairs : List (Text × Text)) → first_of id (given_rows s pairs) ≡ option_map (λ p. p.1) (find (λ p. bytes_eq p.0 id) pairs)
 first_given s id [] = refl

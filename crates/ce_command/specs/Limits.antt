@@ -4,7 +4,7 @@ use Rattle.ce_angle.specs.Fraction.{Fraction, IsAngle}
 use Rattle.ce_angle.specs.declared.angle.AngleError.{AngleError}
 use Rattle.ce_rows.specs.Scale.{IsExponent}
 use Rattle.ce_command.specs.declared.command.Command.{Command}
-use Rattle.ce_command.specs.declared.command.Command.TheVariants.{Angle, Show}
+use Rattle.ce_command.specs.declared.command.Command.TheVariants.{Angle, Show, Replay}
 
 -- What is read as an angle is one.
 abbrev pub IsRead : Result Fraction AngleError → Type 0
@@ -19,3 +19,4 @@ pub record AreLimited (rounds scale : ℕ) : Type 0 where
 abbrev pub IsWithinLimits : Command → Type 0
 IsWithinLimits (Angle angle rounds turns scale) = IsRead angle × AreLimited rounds scale × (turns ≡ 0)
 IsWithinLimits (Show angle) = IsRead angle
+IsWithinLimits (Replay angle rounds scale) = IsRead angle × AreLimited rounds scale

@@ -36,10 +36,16 @@ form_of name.Show = record {
   options = [];
   command = λ text number. command.Show (angle_of_text (text fraction));
 }
+form_of name.Replay = record {
+  name = codes "replay";
+  positionals = fraction ∷ [];
+  options = rounds ∷ scale ∷ [];
+  command = λ text number. command.Replay (angle_of_text (text fraction)) (number rounds) (number scale);
+}
 
 -- the names, each once
 abbrev pub all_names : List CommandName
-all_names = name.Angle ∷ name.Show ∷ []
+all_names = name.Angle ∷ name.Show ∷ name.Replay ∷ []
 
 -- clap's description of a command of the table
 abbrev pub app_named : CommandName → App

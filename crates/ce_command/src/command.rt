@@ -24,4 +24,10 @@ pub enum Command {
     Show {
         angle: Result<Angle, AngleError>,
     },
+    /// The events of a script, replayed from an angle's start.
+    Replay {
+        angle: Result<Angle, AngleError>,
+        rounds: u32,
+        scale: u32,
+    },
 }

@@ -7,6 +7,7 @@ ghost use Rattle.ce_command.specs.Meaning.{name_of};
 pub(crate) enum CommandName {
     Angle,
     Show,
+    Replay,
 }
 
 impl CommandName {
@@ -18,6 +19,7 @@ impl CommandName {
         match word {
             "angle" => Some(CommandName::Angle),
             "show" => Some(CommandName::Show),
+            "replay" => Some(CommandName::Replay),
             _ => None,
         }
     }

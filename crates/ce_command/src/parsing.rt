@@ -51,6 +51,7 @@ fn description<'a>(alloc: Global, name: CommandName) -> Result<clap::Command<'a>
     match name {
         CommandName::Angle => described(alloc, "angle", &[FRACTION], &[ROUNDS, TURNS, SCALE]),
         CommandName::Show => described(alloc, "show", &[FRACTION], &[]),
+        CommandName::Replay => described(alloc, "replay", &[FRACTION], &[ROUNDS, SCALE]),
     }
 }
 

@@ -1,7 +1,7 @@
 // Words are written here as a line, in which single spaces separate them.
 use crate::WordsError::Usage;
 use crate::{Command, read_words};
-use ce_angle::AngleError::{NotAFraction, NotBelowOne};
+use ce_angle::AngleError::{NotAFraction, NotBelowOne, ZeroDenominator};
 use ce_angle::{Angle, AngleError};
 use std::alloc::Global;
 use std::test::Fail;
@@ -84,6 +84,26 @@ fn angles_are_shown(rt: HostRuntime) -> Result<(), Fail> {
 }
 
 #[test]
+fn replays_are_read_with_their_options(rt: HostRuntime) -> Result<(), Fail> {
+    let table = [
+        ("replay 1/4", Angle::new(1, 4), 36, 32),
+        ("replay 1/4 --rounds 0 --scale 48", Angle::new(1, 4), 0, 48),
+        ("replay --scale=48 -- 1/3", Angle::new(1, 3), 36, 48),
+        ("replay 1/0 --rounds 2", Err(ZeroDenominator), 2, 32),
+    ];
+    for (line, angle, rounds, scale) in table {
+        let words = words_of(rt.alloc(), line)?;
+        let want = Command::Replay {
+            angle,
+            rounds,
+            scale,
+        };
+        assert_eq!(rt; read_words(rt.alloc(), &words), Ok(want), "{line}");
+    }
+    Ok(())
+}
+
+#[test]
 fn words_without_a_command_are_usage(rt: HostRuntime) -> Result<(), Fail> {
     let table = [
         "",
@@ -113,6 +133,10 @@ fn words_without_a_command_are_usage(rt: HostRuntime) -> Result<(), Fail> {
         "angle 1/4 --rounds 4294967298",
         "angle 1/4 --rounds=",
         "angle 5/4 --rounds 37",
+        "replay",
+        "replay 1/4 --scale 40",
+        "replay 1/4 --rounds 37",
+        "replay 1/4 --turns 0",
     ];
     for line in table {
         let words = words_of(rt.alloc(), line)?;

@@ -48,6 +48,19 @@ fn show_command(matches: &ArgMatches<'_>) -> Command
     }
 }
 
+// The command `replay` with what is given, where each number is in form and in range.
+fn replay_command(matches: &ArgMatches<'_>) -> Option<Command>
+    ensures { result ≡ command_from (form_of CommandName.Replay) (given_by matches.now) }
+{
+    let rounds = number_of(matches, ROUNDS)?;
+    let scale = number_of(matches, SCALE)?;
+    Some(Command::Replay {
+        angle: typed_angle(matches),
+        rounds,
+        scale,
+    })
+}
+
 // A command with what is given.
 fn command_with(name: CommandName, matches: &ArgMatches<'_>) -> Option<Command>
     ensures { result ≡ command_from (form_of name) (given_by matches.now) }
@@ -55,6 +68,7 @@ fn command_with(name: CommandName, matches: &ArgMatches<'_>) -> Option<Command>
     match name {
         CommandName::Angle => angle_command(matches),
         CommandName::Show => Some(show_command(matches)),
+        CommandName::Replay => replay_command(matches),
     }
 }
 

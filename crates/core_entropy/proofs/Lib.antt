@@ -1,6 +1,8 @@
 mod Line
 mod Causes
 mod OneAnswer
-mod Outcomes
+mod OneStatus
 mod ShowRows
 mod FloorEnds
+mod Outcomes
+mod Replayed

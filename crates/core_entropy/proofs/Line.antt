@@ -12,7 +12,7 @@ use Rattle.core_entropy.specs.AngleLine.{IsAngleLine, line_of}
 use Rattle.core_entropy.specs.Floor.{rows_at, IsInitialEnclosure}
 
 -- What encloses the growth of counts encloses that of the same counts.
-same_growth : (exponent : ℕ) (count other : ℕ → ℕ) (low high : ℕ) → ((n : ℕ) → count n ≡ other n) → Encloses exponent count low high → Encloses exponent other low high
+pub same_growth : (exponent : ℕ) (count other : ℕ → ℕ) (low high : ℕ) → ((n : ℕ) → count n ≡ other n) → Encloses exponent count low high → Encloses exponent other low high
 unfolding IsGrowthLowerBound IsGrowthUpperBound
 same_growth exponent count other low high same h = record {
   below = (h.below.0, h.below.1, λ n. subst (λ c. low ^ n ≤ h.below.0 * (2 ^ exponent) ^ n * c) (same n) (h.below.2 n));

@@ -1,16 +1,22 @@
 -- What the words after the program's name ask for. Source: this project's choice.
-use Rattle.std.specs.Prelude.{◌≡◌, ℕ, List, Option, None, Some, Result, Ok, Err}
+use Rattle.std.specs.Prelude.{◌≡◌, ℕ, List, None, Some, Result, Ok, Err, ⊤}
 use Rattle.ce_angle.specs.Fraction.{Fraction}
 use Rattle.ce_angle.specs.declared.angle.AngleError.{AngleError}
 use Rattle.ce_command.specs.Meaning.{command_of}
 use Rattle.ce_command.specs.declared.command.Command.{Command}
-use Rattle.ce_command.specs.declared.command.Command.TheVariants.{Angle, Show}
+use Rattle.ce_command.specs.declared.command.Command.TheVariants.{Angle, Show, Replay}
 use Rattle.ce_orbit.specs.Orbit.{HasOrbitWithin, HasOrbitAbove}
 
 -- what the word for the angle of a command reads as
 abbrev pub typed_angle : Command → Result Fraction AngleError
 typed_angle (Angle angle rounds turns scale) = angle
 typed_angle (Show angle) = angle
+typed_angle (Replay angle rounds scale) = angle
+
+-- A command reads the input: it replays a script, and has an angle.
+abbrev pub IsToRead : Command → Type 0
+IsToRead (Replay (Ok angle) rounds scale) = ⊤
+IsToRead _ = ⊥
 
 -- The angle of a command has an orbit of more than 128 angles, or of at most so many.
 pub record HasLongOrbit (command : Command) : Type 0 where
@@ -44,3 +50,13 @@ pub record AsksOrbit (words : List (List ℕ)) : Type 0 where
   pub command : Command
   pub means : command_of words ≡ Some command
   pub short : HasShortOrbit command
+
+-- The words are a command that reads the input.
+pub record AsksToRead (words : List (List ℕ)) : Type 0 where
+  pub command : Command
+  pub means : command_of words ≡ Some command
+  pub reads : IsToRead command
+
+-- The words are no command that reads the input.
+abbrev pub ReadsNothing : List (List ℕ) → Type 0
+ReadsNothing words = (command : Command) → command_of words ≡ Some command → ¬ (IsToRead command)

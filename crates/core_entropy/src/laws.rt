@@ -7,7 +7,9 @@ ghost use Rattle.ce_rows.specs.Rows.{ScaledRows, AreScaledRows};
 ghost use Rattle.ce_vector.specs.PowerIteration.{power_vector};
 ghost use Rattle.ce_cert.specs.Quotients.{low_of, high_of};
 ghost use Rattle.core_entropy.specs.Answer.{IsAnswer};
+ghost use Rattle.core_entropy.specs.Causes.{CallFor};
 ghost use Rattle.core_entropy.specs.Words.{AsksNothing, AsksFlawed, AsksTooLong, AsksOrbit};
+ghost use Rattle.core_entropy.specs.declared.status.Status.{Status};
 
 /// Whatever the words are, they ask for nothing, for a flawed angle, for a too long orbit or for an
 /// orbit.
@@ -27,10 +29,16 @@ pub fn words_have_one_cause()
     ensures too_long { (words : List (List ℕ)) → AsksTooLong words → ¬ (AsksOrbit words) }
 {}
 
-/// Words have at most one answer.
+/// Words with an input call for at most one status.
+pub fn one_status_is_called_for()
+    ensures { (words : List (List ℕ)) (input : List ℕ) (s t : Status)
+        → CallFor words input s → CallFor words input t → s ≡ t }
+{}
+
+/// Words with an input have at most one answer.
 pub fn answers_are_unique()
-    ensures { (words : List (List ℕ)) (text other : List ℕ)
-        → IsAnswer words text → IsAnswer words other → text ≡ other }
+    ensures { (words : List (List ℕ)) (input text other : List ℕ)
+        → IsAnswer words input text → IsAnswer words input other → text ≡ other }
 {}
 
 /// The bounds that a vector of power iteration gives lie from one to two at the scale of the rows,

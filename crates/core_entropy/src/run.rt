@@ -1,47 +1,37 @@
-// All that the program does, over any sinks.
-ghost use Rattle.std.specs.Prelude.{◌≡◌, ◌⊎◌, [], map, string_bytes, IfOk, IfErr, Err, Ok};
-ghost use Rattle.ce_angle.specs.declared.angle.AngleError.{AngleError};
-ghost use Rattle.ce_command.specs.Limits.{IsWithinLimits};
+// All that the program does, over any source and any sinks.
+ghost use Rattle.std.specs.Prelude.{◌≡◌, ◌⊎◌, ◌+◌, [], ℕ, List, Some, map, string_bytes};
+ghost use Rattle.std.specs.Io.KnownBytes.{IsAtEnd};
+ghost use Rattle.ce_port.specs.ReadAll.{Gave};
 ghost use Rattle.ce_port.specs.Sink.{GrewBy, Rose};
+ghost use Rattle.core_entropy.specs.Causes.{CallFor, CallsWith, IsCalledFor, input_limit};
 ghost use Rattle.core_entropy.specs.Output.{WroteAnswer, WrotePart, WroteOutput, WroteLine};
-ghost use Rattle.core_entropy.specs.Status.{HasCause, IsRefusal, IsUnlessNoMemory, NoText, error_line};
-ghost use Rattle.core_entropy.specs.Answer.{IsTextOf};
-ghost use Rattle.core_entropy.specs.Words.{AsksNothing, AsksFlawed, AsksTooLong, AsksOrbit, HasShortOrbit};
+ghost use Rattle.core_entropy.specs.Status.{IsRefusal, IsUnlessNoMemory, error_line};
+ghost use Rattle.core_entropy.specs.Words.{AsksToRead, ReadsNothing};
+ghost use Rattle.core_entropy.specs.declared.status.Status.{Status};
 
-use crate::angle::line_of_angle;
-use crate::show::show_of_angle;
+use crate::error_line::ErrorLine;
+use crate::input::read_input;
 use crate::status::Status;
-use ce_command::{Command, WordsError, read_words};
-use ce_port::{Sink, WriteEnd, write_all};
+use crate::task::text_of;
+use ce_command::{WordsError, read_words};
+use ce_port::{Sink, Source, WriteEnd, write_all};
 use std::alloc::Global;
 
-// The text of a command, or why there is none.
-fn text_of(alloc: Global, command: Command) -> Result<String, Status>
-    requires { IsWithinLimits command }
-    ensures text { IfOk result (λ text. IsTextOf command (string_bytes text)) }
-    ensures orbit { IfOk result (λ _. HasShortOrbit command) }
-    ensures none { IfErr result (NoText command) }
-{
-    match command {
-        Command::Angle {
-            angle: Ok(angle),
-            rounds,
-            turns: _,
-            scale,
-        } => line_of_angle(alloc, angle, rounds, scale),
-        Command::Show { angle: Ok(angle) } => show_of_angle(alloc, angle),
-        Command::Angle {
-            angle: Err(flaw),
-            ..
-        }
-        | Command::Show { angle: Err(flaw) } => Err(Status::Angle(flaw)),
-    }
-}
-
 // Writes the answer to the words.
-fn answer<O: Sink>(alloc: Global, words: &[String], out: &mut O) -> Status
-    ensures cause { HasCause (map string_bytes words.now) result }
-    ensures output { WroteOutput result (map string_bytes words.now) (O.taken out.old) (O.taken out.new) }
+fn answer<S: Source, O: Sink>(
+    alloc: Global,
+    words: &[String],
+    source: &mut S,
+    out: &mut O,
+) -> Status
+    ensures cause { IsCalledFor result → CallsWith (map string_bytes words.now) (S.left source.old) result }
+    ensures output { WroteOutput result (map string_bytes words.now) (S.left source.old)
+        (O.taken out.old) (O.taken out.new) }
+    ensures read { result ≡ Status.Done → AsksToRead (map string_bytes words.now) → IsAtEnd (S.left source.new) }
+    ensures unread { ReadsNothing (map string_bytes words.now) → source.new ≡ source.old }
+    ensures too_much { result ≡ Status.InputTooLong → Gave (input_limit + 1) (S.left source.old) (S.left source.new) }
+    ensures read_fault { result ≡ Status.ReadFault → AsksToRead (map string_bytes words.now) }
+    ensures source_fault { result ≡ Status.ReadFault → Rose (S.faults source.old) (S.faults source.new) }
     ensures fault { result ≡ Status.WriteFault → Rose (O.faults out.old) (O.faults out.new) }
 {
     let command = match read_words(alloc, words) {
@@ -49,7 +39,11 @@ fn answer<O: Sink>(alloc: Global, words: &[String], out: &mut O) -> Status
         Err(WordsError::Usage) => return Status::Usage,
         Err(WordsError::NoMemory) => return Status::NoMemory,
     };
-    let text = match text_of(alloc, command) {
+    let input = match read_input(alloc, &command, source) {
+        Ok(input) => input,
+        Err(status) => return status,
+    };
+    let text = match text_of(alloc, command, &input) {
         Ok(text) => text,
         Err(status) => return status,
     };
@@ -60,56 +54,64 @@ fn answer<O: Sink>(alloc: Global, words: &[String], out: &mut O) -> Status
 }
 
 /// Writes the error line of a status to `err`, whose faults change nothing, and gives the status
-/// back.
+/// back. Takes no memory.
 pub fn tell<E: Sink>(err: &mut E, status: Status) -> Status
     ensures same { result ≡ status }
     ensures line { WroteLine (error_line status) (E.taken err.old) (E.taken err.new)
         (E.faults err.old) (E.faults err.new) }
     ensures silent { status ≡ Status.Done → err.new ≡ err.old }
 {
-    let _end = write_all(err, status.error_line());
+    let line = ErrorLine::of(status);
+    let _end = write_all(err, line.as_slice());
     status
 }
 
-/// Does what the words after the program's name ask for: writes the answer to `out` and gives its
-/// status, whose error line goes to `err`. Faults of `err` change no status.
-pub fn run_command<O: Sink, E: Sink>(
+/// Does what the words after the program's name ask for: reads `source`, if the command has an
+/// input, writes the answer to `out` and gives its status, whose error line goes to `err`. Faults of
+/// `err` change no status.
+pub fn run_command<S: Source, O: Sink, E: Sink>(
     alloc: Global,
     words: &[String],
+    source: &mut S,
     out: &mut O,
     err: &mut E,
 ) -> Status
     // The answer is the text of the command: each interval in it encloses the growth rate of the
     // walks on the pairs of the typed angle, and an orbit is shown by a function of the angle.
     ensures done { result ≡ Status.Done
-        → WroteAnswer (map string_bytes words.now) (O.taken out.old) (O.taken out.new) }
+        → WroteAnswer (map string_bytes words.now) (S.left source.old) (O.taken out.old) (O.taken out.new) }
 
-    // Each refusal has its cause, and each cause its refusal, if memory is given.
-    ensures usage { result ≡ Status.Usage → AsksNothing (map string_bytes words.now) }
-    ensures no_command { AsksNothing (map string_bytes words.now) → IsUnlessNoMemory result Status.Usage }
-    ensures angle { (flaw : AngleError)
-        → result ≡ Status.Angle flaw → AsksFlawed (map string_bytes words.now) flaw }
-    ensures flawed { (flaw : AngleError)
-        → AsksFlawed (map string_bytes words.now) flaw → IsUnlessNoMemory result (Status.Angle flaw) }
-    ensures too_long { result ≡ Status.OrbitTooLong → AsksTooLong (map string_bytes words.now) }
-    ensures long { AsksTooLong (map string_bytes words.now) → IsUnlessNoMemory result Status.OrbitTooLong }
+    // Each status but faults and out of memory is the one that the words and the input call for, and
+    // without a fault that one is given, if memory is.
+    ensures cause { IsCalledFor result → CallsWith (map string_bytes words.now) (S.left source.old) result }
+    ensures complete { (input : List ℕ) (s : Status) → S.left source.old ≡ Some input
+        → CallFor (map string_bytes words.now) input s
+        → ¬ (Rose (S.faults source.old) (S.faults source.new)) → ¬ (Rose (O.faults out.old) (O.faults out.new))
+        → IsUnlessNoMemory result s }
+    // The same of words that read nothing, whatever the source is.
+    ensures complete_unread { (s : Status) → ReadsNothing (map string_bytes words.now)
+        → CallFor (map string_bytes words.now) [] s → ¬ (Rose (O.faults out.old) (O.faults out.new))
+        → IsUnlessNoMemory result s }
     ensures refused { IsRefusal result → GrewBy (O.taken out.old) (O.taken out.new) [] }
 
+    // Only a command that has an input reads it, and to its end where it is done.
+    ensures unread { ReadsNothing (map string_bytes words.now) → source.new ≡ source.old }
+    ensures read { result ≡ Status.Done → AsksToRead (map string_bytes words.now) → IsAtEnd (S.left source.new) }
+    ensures too_much { result ≡ Status.InputTooLong → Gave (input_limit + 1) (S.left source.old) (S.left source.new) }
+
+    ensures read_fault { result ≡ Status.ReadFault → AsksToRead (map string_bytes words.now) }
+    ensures source_fault { result ≡ Status.ReadFault → Rose (S.faults source.old) (S.faults source.new) }
     ensures write_fault { result ≡ Status.WriteFault → Rose (O.faults out.old) (O.faults out.new) }
     ensures part { result ≡ Status.WriteFault
-        → WrotePart (map string_bytes words.now) (O.taken out.old) (O.taken out.new) }
+        → WrotePart (map string_bytes words.now) (S.left source.old) (O.taken out.old) (O.taken out.new) }
     // Free: no clause ties it to a refused growth, and a text may go out in pieces.
     ensures no_memory { result ≡ Status.NoMemory → GrewBy (O.taken out.old) (O.taken out.new) []
-        ⊎ WrotePart (map string_bytes words.now) (O.taken out.old) (O.taken out.new) }
-
-    // Where there is an answer and no fault of `out` was counted, it is given, if memory is.
-    ensures complete { AsksOrbit (map string_bytes words.now) → ¬ (Rose (O.faults out.old) (O.faults out.new))
-        → IsUnlessNoMemory result Status.Done }
+        ⊎ WrotePart (map string_bytes words.now) (S.left source.old) (O.taken out.old) (O.taken out.new) }
 
     ensures error { WroteLine (error_line result) (E.taken err.old) (E.taken err.new)
         (E.faults err.old) (E.faults err.new) }
     ensures silent { result ≡ Status.Done → err.new ≡ err.old }
 {
-    let status = answer(alloc, words, out);
+    let status = answer(alloc, words, source, out);
     tell(err, status)
 }

@@ -6,7 +6,7 @@ use ce_angle::AngleError;
 /// How a command ended. Each status has an exit code, and each but `Done` an error line.
 #[derive(Clone, Copy, Debug, PartialEq, Eq)]
 pub enum Status {
-    /// The whole text was written.
+    /// The whole text was written, and the input of a command that reads one was read to its end.
     Done,
     /// The words are no command.
     Usage,
@@ -14,6 +14,12 @@ pub enum Status {
     Angle(AngleError),
     /// The orbit of the angle has more than 128 angles.
     OrbitTooLong,
+    /// A line of the script is no event: the first such one, counted from 1.
+    BadEvent { line: u64 },
+    /// The input has more bytes than the command reads.
+    InputTooLong,
+    /// The input failed.
+    ReadFault,
     /// The output failed.
     WriteFault,
     /// Memory was refused.
@@ -21,7 +27,7 @@ pub enum Status {
 }
 
 impl Status {
-    ghost use Rattle.core_entropy.specs.Status.{code_of, error_line};
+    ghost use Rattle.core_entropy.specs.Status.{code_of};
 
     /// The program's exit status.
     pub fn code(&self) -> u8
@@ -30,26 +36,13 @@ impl Status {
         match self {
             Status::Done => 0,
             Status::Usage => 2,
-            Status::Angle(_) | Status::OrbitTooLong => 3,
+            Status::Angle(_)
+            | Status::OrbitTooLong
+            | Status::BadEvent { .. }
+            | Status::InputTooLong => 3,
+            Status::ReadFault => 4,
             Status::WriteFault => 5,
             Status::NoMemory => 6,
-        }
-    }
-
-    /// What is written to standard error.
-    pub fn error_line(&self) -> &'static [u8]
-        ensures { result.now ≡ error_line self.now }
-    {
-        match self {
-            Status::Done => b"",
-            Status::Usage => b"error: usage\n",
-            Status::Angle(AngleError::NotAFraction) => b"error: NotAFraction\n",
-            Status::Angle(AngleError::ZeroDenominator) => b"error: ZeroDenominator\n",
-            Status::Angle(AngleError::NotBelowOne) => b"error: NotBelowOne\n",
-            Status::Angle(AngleError::DenominatorTooLarge) => b"error: DenominatorTooLarge\n",
-            Status::OrbitTooLong => b"error: OrbitTooLong\n",
-            Status::WriteFault => b"error: write fault\n",
-            Status::NoMemory => b"error: no memory\n",
         }
     }
 }

@@ -1,12 +1,12 @@
-// The worked lines and refusals, over sinks in memory.
+// The worked lines and refusals, over a source and sinks in memory.
 use crate::run::run_command;
 use crate::status::Status;
-use ce_port::{MemSink, SureSink};
+use ce_port::{MemSink, SureSink, SureSource};
 use std::alloc::Global;
 use std::process::Abort;
 use std::test::Fail;
 
-const ROOM: usize = 256;
+pub(crate) const ROOM: usize = 256;
 
 const SHOWN: &str = "angle 1/6\n\
     preperiod 1 period 2\n\
@@ -25,7 +25,7 @@ const SHOWN_ZERO: &str = "angle 0/1\n\
     row 0 pair 0 0 to 0\n";
 
 // The words of a line, which are separated by single spaces; an empty line has none.
-fn words_of(alloc: Global, line: &str) -> Result<Vec<String>, Fail> {
+pub(crate) fn words_of(alloc: Global, line: &str) -> Result<Vec<String>, Fail> {
     let mut words = Vec::new(alloc);
     if line.is_empty() {
         return Ok(words);
@@ -36,7 +36,27 @@ fn words_of(alloc: Global, line: &str) -> Result<Vec<String>, Fail> {
     Ok(words)
 }
 
-// Runs a command, and compares its exit code and what it writes.
+// Runs a command on an input, and compares its exit code and what it writes.
+pub(crate) fn expect_replay(
+    rt: &(impl Abort + AllocGlobal),
+    line: &str,
+    input: &[u8],
+    code: u8,
+    out: &str,
+    err: &str,
+) -> Result<(), Fail> {
+    let words = words_of(rt.alloc(), line)?;
+    let mut source = SureSource::new(Vec::from_slice(rt.alloc(), input)?);
+    let mut taken = SureSink::new(rt.alloc(), ROOM)?;
+    let mut told = SureSink::new(rt.alloc(), ROOM)?;
+    let status = run_command(rt.alloc(), &words, &mut source, &mut taken, &mut told);
+    assert_eq!(rt; status.code(), code, "{line}");
+    assert_eq!(rt; taken.taken(), out.as_bytes(), "{line}");
+    assert_eq!(rt; told.taken(), err.as_bytes(), "{line}");
+    Ok(())
+}
+
+// The same of a command without an input.
 fn expect_run(
     rt: &(impl Abort + AllocGlobal),
     line: &str,
@@ -44,14 +64,7 @@ fn expect_run(
     out: &str,
     err: &str,
 ) -> Result<(), Fail> {
-    let words = words_of(rt.alloc(), line)?;
-    let mut taken = SureSink::new(rt.alloc(), ROOM)?;
-    let mut told = SureSink::new(rt.alloc(), ROOM)?;
-    let status = run_command(rt.alloc(), &words, &mut taken, &mut told);
-    assert_eq!(rt; status.code(), code, "{line}");
-    assert_eq!(rt; taken.taken(), out.as_bytes(), "{line}");
-    assert_eq!(rt; told.taken(), err.as_bytes(), "{line}");
-    Ok(())
+    expect_replay(rt, line, b"", code, out, err)
 }
 
 #[test]
@@ -69,7 +82,10 @@ fn angles_have_their_lines(rt: HostRuntime) -> Result<(), Fail> {
         ("1/4 --rounds 0", "1/4 low 4294967296 high 8589934592"),
         ("1/4 --rounds 1", "1/4 low 6442450944 high 8589934592"),
         ("1/4 --rounds 2", "1/4 low 6979321856 high 7730941133"),
-        ("1/4 --rounds=2 --turns 0", "1/4 low 6979321856 high 7730941133"),
+        (
+            "1/4 --rounds=2 --turns 0",
+            "1/4 low 6979321856 high 7730941133",
+        ),
         ("--rounds 2 -- 2/8", "1/4 low 6979321856 high 7730941133"),
         ("1/5 --rounds 1", "1/5 low 4294967296 high 7158278827"),
         (
@@ -101,7 +117,13 @@ fn the_longest_orbit_is_shown(rt: HostRuntime) -> Result<(), Fail> {
     let words = words_of(rt.alloc(), "show 1/448790528")?;
     let mut out = SureSink::new(rt.alloc(), 300_000)?;
     let mut err = SureSink::new(rt.alloc(), ROOM)?;
-    let status = run_command(rt.alloc(), &words, &mut out, &mut err);
+    let status = run_command(
+        rt.alloc(),
+        &words,
+        &mut SureSource::new(Vec::new(rt.alloc())),
+        &mut out,
+        &mut err,
+    );
     assert_eq!(rt; status, Status::Done);
     let text = out.taken();
     let start = b"angle 1/448790528\npreperiod 22 period 106\norbit 1/448790528 1/22".as_slice();
@@ -144,21 +166,22 @@ fn refusals_have_their_codes_and_lines(rt: HostRuntime) -> Result<(), Fail> {
 }
 
 // Runs a command whose text goes in so many pieces, with each call failing in turn.
-fn expect_prefixes(
+pub(crate) fn expect_prefixes(
     rt: &(impl Abort + AllocGlobal),
     line: &str,
+    input: &[u8],
     text: &str,
-    piece: usize,
     calls: u64,
 ) -> Result<(), Fail> {
     let words = words_of(rt.alloc(), line)?;
-    assert!(rt; 0 < piece && piece < 100 && calls < 100);
+    assert!(rt; calls < 100);
     for call in 1..calls + 1 {
-        let mut out = MemSink::new(rt.alloc(), ROOM, piece, vec![in rt.alloc(); call]?)?;
+        let mut source = SureSource::new(Vec::from_slice(rt.alloc(), input)?);
+        let mut out = MemSink::new(rt.alloc(), ROOM, 16, vec![in rt.alloc(); call]?)?;
         let mut err = SureSink::new(rt.alloc(), ROOM)?;
-        let status = run_command(rt.alloc(), &words, &mut out, &mut err);
+        let status = run_command(rt.alloc(), &words, &mut source, &mut out, &mut err);
         assert_eq!(rt; status, Status::WriteFault, "{line}, call {call}");
-        let before = piece * (call as usize - 1);
+        let before = 16 * (call as usize - 1);
         assert!(rt; before <= text.len());
         assert_eq!(rt;
             out.taken(),
@@ -177,8 +200,8 @@ fn expect_prefixes(
 #[test]
 fn a_failing_output_has_a_prefix_of_the_text(rt: HostRuntime) -> Result<(), Fail> {
     let line = "angle 1/2 low 8589934592 high 8589934592\n";
-    expect_prefixes(&rt, "angle 1/2", line, 5, 9)?;
-    expect_prefixes(&rt, "show 1/6", SHOWN, 7, 20)
+    expect_prefixes(&rt, "angle 1/2", b"", line, 3)?;
+    expect_prefixes(&rt, "show 1/6", b"", SHOWN, 9)
 }
 
 #[test]
@@ -186,7 +209,13 @@ fn a_failing_error_stream_changes_no_status(rt: HostRuntime) -> Result<(), Fail>
     let words = words_of(rt.alloc(), "angle 5/4")?;
     let mut out = SureSink::new(rt.alloc(), ROOM)?;
     let mut err = MemSink::new(rt.alloc(), 7, 5, Vec::new(rt.alloc()))?;
-    let status = run_command(rt.alloc(), &words, &mut out, &mut err);
+    let status = run_command(
+        rt.alloc(),
+        &words,
+        &mut SureSource::new(Vec::new(rt.alloc())),
+        &mut out,
+        &mut err,
+    );
     assert_eq!(rt; status.code(), 3);
     assert_eq!(rt; err.taken(), b"error: ".as_slice());
     assert_eq!(rt; err.faults(), 1);

@@ -6,11 +6,18 @@
 #![tactic(auto)]
 
 mod angle;
+mod farey;
 mod laws;
+mod order;
 mod reading;
+mod spelling;
 #[cfg(test)]
 mod tests;
 
 pub use angle::{Angle, AngleError};
-pub use laws::{angles_are_the_given_numbers, lowest_terms_are_unique};
+pub use farey::Farey;
+pub use laws::{
+    angles_are_the_given_numbers, angles_up_to_an_order_are_one_list, lowest_terms_are_unique,
+    spelled_angles_read_back,
+};
 pub use reading::number;

@@ -1,6 +1,11 @@
-mod Built
+pub mod Built
+pub mod Filled
 pub mod Unique
 pub mod Exists
 pub mod Ends
 pub mod Next
-pub mod Symbols
+pub mod Keys
+pub mod KeyOrder
+pub mod SameKeys
+pub mod Iterated
+pub mod OneOrbit

@@ -54,8 +54,14 @@ fn places_are_separated_where_one_symbol_is_one_and_the_other_zero(
         (1, 7, "11*"),
     ];
     for (num, den, symbols) in table {
-        let symbols = symbols.as_bytes();
         let orbit = Orbit::of(Angle::new(num, den)?)?;
+        let mut spelled = String::new(rt.alloc());
+        for i in 0..orbit.len() {
+            let symbol = orbit.symbol(i);
+            write!(spelled, "{symbol}")?;
+        }
+        assert_eq!(rt; spelled.as_str(), symbols, "{num}/{den}");
+        let symbols = symbols.as_bytes();
         assert_eq!(rt; orbit.len() as usize, symbols.len(), "{num}/{den}");
         for i in 0..orbit.len() {
             let symbol = match symbols[i as usize] {
@@ -105,5 +111,40 @@ fn orbits_end_in_a_cycle(rt: HostRuntime) -> Result<(), Fail> {
         assert_eq!(rt; orbit.preperiod(), preperiod, "{num}/{den}");
         assert_eq!(rt; orbit.period(), period, "{num}/{den}");
     }
+    Ok(())
+}
+
+#[test]
+fn keys_are_kneading_sequences_with_preperiod_and_period(rt: HostRuntime) -> Result<(), Fail> {
+    // an angle, its preperiod and period, and its symbols
+    let table = [
+        (0, 1, 0, 1, "*"),
+        (1, 4, 2, 1, "110"),
+        (1, 5, 0, 4, "110*"),
+        (1, 6, 1, 2, "110"),
+    ];
+    for (num, den, preperiod, period, symbols) in table {
+        let key = Orbit::of(Angle::new(num, den)?)?.key();
+        assert_eq!(rt;
+            (key.preperiod, key.period),
+            (preperiod, period),
+            "{num}/{den}"
+        );
+        let symbols = symbols.as_bytes();
+        for i in 0..128 {
+            let want = match symbols.get(i) {
+                Some(b'1') => Symbol::One,
+                Some(b'*') => Symbol::Star,
+                _ => Symbol::Zero,
+            };
+            assert_eq!(rt; key.symbols[i], want, "place {i} of {num}/{den}");
+        }
+    }
+    let quarter = Orbit::of(Angle::new(1, 4)?)?.key();
+    assert!(rt; quarter == Orbit::of(Angle::new(3, 4)?)?.key());
+    // The same symbols with another preperiod, which comes first in the order.
+    let sixth = Orbit::of(Angle::new(1, 6)?)?.key();
+    assert!(rt; quarter != sixth);
+    assert!(rt; sixth < quarter);
     Ok(())
 }

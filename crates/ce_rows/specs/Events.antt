@@ -2,22 +2,10 @@
 -- [ChazanMiranker1969] for the asynchronous iteration; the words and their steps are this project's
 -- choice.
 use Rattle.std.specs.Prelude.{ℕ, ⊤, ◌<◌, max, min, List, slice_index, slice_set}
+use Rattle.ce_rows.specs.declared.act.Act.{Act}
+use Rattle.ce_rows.specs.declared.act.Act.TheVariants.{Loads, Relaxes, Shrinks, LoadsLow, LoadsHigh, Raises, Lowers, LoadsShift, Asks, LoadsStop, Stops}
 use Rattle.ce_rows.specs.declared.event.Event.{Event}
 use Rattle.ce_rows.specs.declared.event.Event.TheVariants.{Load, Relax, Shrink, Low, High, Raise, Lower, Shift, Ask, Halted, Stop}
-
--- what an event does, whoever does it
-pub data Act : Type 0 where
-  Loads : ℕ → Act
-  Relaxes : ℕ → Act
-  Shrinks : ℕ → Act
-  LoadsLow : Act
-  LoadsHigh : Act
-  Raises : Act
-  Lowers : Act
-  LoadsShift : Act
-  Asks : Act
-  LoadsStop : Act
-  Stops : Act
 
 -- an event is an act of an actor
 abbrev pub actor_of : Event → ℕ
@@ -46,15 +34,18 @@ act_of (Ask _) = Asks
 act_of (Halted _) = LoadsStop
 act_of (Stop _) = Stops
 
--- The entry that an event names, if it names one, is below a number.
-abbrev pub HasEntryBelow : ℕ → Event → Type 0
-HasEntryBelow count (Load _ entry) = entry < count
-HasEntryBelow count (Relax _ entry) = entry < count
-HasEntryBelow count (Shrink _ entry) = entry < count
-HasEntryBelow count _ = ⊤
+-- The entry that an act, or an event, names, if it names one, is below a number.
+abbrev pub IsOnEntryBelow : ℕ → Act → Type 0
+IsOnEntryBelow count (Loads entry) = entry < count
+IsOnEntryBelow count (Relaxes entry) = entry < count
+IsOnEntryBelow count (Shrinks entry) = entry < count
+IsOnEntryBelow count _ = ⊤
 
--- the entries of the vector, the bounds, the count of rescalings that were asked for, and the stop
--- word, which is 0 or 1
+abbrev pub HasEntryBelow : ℕ → Event → Type 0
+HasEntryBelow count event = IsOnEntryBelow count (act_of event)
+
+-- the entries of the vector, the bounds, the greatest number of rescalings that was asked for, and
+-- the stop word, which is 0 or 1
 pub record Shared : Type 0 where
   pub entries : List ℕ
   pub low : ℕ
@@ -63,8 +54,8 @@ pub record Shared : Type 0 where
   pub stop : ℕ
 
 -- The shared state after an act that carries a number: the value that is stored, the bound that is
--- compared with the word, the count that is asked for, and 1 where the stop word is to be set. The
--- low bound, the count and the stop word only rise, and the high bound only falls.
+-- compared with the word, the number of rescalings that is asked for, and 1 where the stop word is
+-- to be set. Only the entries and the high bound can fall.
 abbrev pub after_act : Shared → Act → ℕ → Shared
 after_act s (Relaxes i) number = record s { entries = slice_set s.entries i number }
 after_act s (Shrinks i) number = record s { entries = slice_set s.entries i number }

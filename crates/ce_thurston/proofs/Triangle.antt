@@ -1,10 +1,11 @@
 -- The indices of pairs: those below the place j are the numbers below j(j-1)/2.
-use Rattle.std.proofs.Common.{◌≡◌, ◌≢◌, ◌<◌, ◌≤◌, ◌+◌, ◌-◌, ◌*◌, ◌/◌, ◌∙◌, ◌⊎◌, inl, inr, ℕ, zero, suc, true, false, refl, sym, ap, arith, add-zero}
+use Rattle.std.proofs.Common.{◌≡◌, ◌≢◌, ◌<◌, ◌≤◌, ◌+◌, ◌-◌, ◌*◌, ◌/◌, ◌∙◌, ◌⊎◌, inl, inr, ℕ, zero, suc, true, false}
+use Rattle.std.proofs.Common.{refl, ap, arith, add-zero}
 use Rattle.std.specs.Prelude.{nat_lt}
 use Rattle.std.proofs.lemmas.Bool.{cases_lt, cases_order}
 use Rattle.std.proofs.lemmas.Bool.Decides.{nat_tests}
 use Rattle.std.proofs.Math.Nat.{add-mul-div_right}
-use Rattle.ce_thurston.specs.Indices.{index_of, index_between}
+use Rattle.ce_thurston.specs.PortraitRows.{index_of, index_between}
 
 -- how many pairs the first places have
 abbrev pub pair_count : ℕ → ℕ
@@ -56,17 +57,6 @@ between-below i j n apart left right = by_order (cases_lt i j)
     by_order : (i < j) ⊎ (j ≤ i) → index_between i j < pair_count n
     by_order (inl h) = rw (between-lower i j h) (index-below i j n h right)
     by_order (inr h) = rw (between-upper i j h) (index-below j i n (omega arith) left)
-
-pub between-swap : (i j : ℕ) → index_between i j ≡ index_between j i
-between-swap i j = by_order (cases_lt i j)
-  where
-    by_order : (i < j) ⊎ (j ≤ i) → index_between i j ≡ index_between j i
-    by_order (inl h) = between-lower i j h ∙ sym (between-upper j i (omega arith))
-    by_order (inr h) = swapped (cases_lt j i) h
-      where
-        swapped : (j < i) ⊎ (i ≤ j) → j ≤ i → index_between i j ≡ index_between j i
-        swapped (inl less) h = between-upper i j h ∙ sym (between-lower j i less)
-        swapped (inr more) h = let same : i ≡ j = omega arith in rw same refl
 
 -- An index is that of one pair of places alone.
 pub one_pair_of_index : (i j a b : ℕ) → i < j → a < b → index_of i j ≡ index_of a b → (i ≡ a) × (j ≡ b)

@@ -24,18 +24,24 @@ scale_small rows are = elim are.scale [
   | inr e ↦ rw e (lit≤ tt)
 ]
 
-module _ (rows : ScaledRows) (are : AreScaledRows rows) (ranks v : List ℕ) (ranking : IsRanking rows.list ranks) (vector : IsVectorOf rows v) where
+module _ (rows : ScaledRows) (are : AreScaledRows rows) (ranks v : List ℕ) (ranking : IsRanking rows.list ranks)
+    (vector : IsVectorOf rows v) where
   -- no quotient of a rank is below the rank's least one
-  rank_below : (i : ℕ) → i < length rows.list → least_quotient rows ranks v (slice_index ranks i) ≤ quotient_down rows ranks v i
+  rank_below : (i : ℕ) → i < length rows.list
+      → least_quotient rows ranks v (slice_index ranks i) ≤ quotient_down rows ranks v i
   unfolding least_quotient
   rank_below i within =
       let rank = slice_index ranks i in
-      let member = Contains-filter (λ j. slice_index ranks j == rank) i (eq-eqb rank rank refl) (range_with_len 0 (length ranks)) (Contains-range (length ranks) i (omega (arith, ranking.each, within))) in
-      least_below (map (quotient_down rows ranks v) (vertices_of ranks rank)) (quotient_down rows ranks v i) (Contains-map (quotient_down rows ranks v) (vertices_of ranks rank) i member)
+      let member =
+      Contains-filter (λ j. slice_index ranks j == rank) i (eq-eqb rank rank refl)
+      (range_with_len 0 (length ranks)) (Contains-range (length ranks) i (omega (arith, ranking.each, within))) in
+      least_below (map (quotient_down rows ranks v) (vertices_of ranks rank)) (quotient_down rows ranks v i)
+      (Contains-map (quotient_down rows ranks v) (vertices_of ranks rank) i member)
 
-  rank_vector : (rank : ℕ) → IsLowVector rows ranks rank v (least_quotient rows ranks v rank)
+  pub rank_vector : (rank : ℕ) → IsLowVector rows ranks rank v (least_quotient rows ranks v rank)
   rank_vector rank i within same =
-      let below : least_quotient rows ranks v rank ≤ quotient_down rows ranks v i = subst (λ r. least_quotient rows ranks v r ≤ quotient_down rows ranks v i) same (rank_below i within) in
+      let below : least_quotient rows ranks v rank ≤ quotient_down rows ranks v i =
+      subst (λ r. least_quotient rows ranks v r ≤ quotient_down rows ranks v i) same (rank_below i within) in
       let more = mul-le-mul_right (slice_index v i) below in
       omega (arith, more, div-mul-le_self (scaled_sum rows ranks v i) (slice_index v i))
 
@@ -48,14 +54,21 @@ module _ (rows : ScaledRows) (are : AreScaledRows rows) (ranks v : List ℕ) (ra
       let (k, within, here) = greatest_attained numbers (omega (arith, long, ranking.each, are.rows.some)) in
       let rank = slice_index ranks k in
       let inside : k < length ranks = omega (arith, within, long) in
-      let is : least_quotient rows ranks v rank ≡ greatest numbers = sym (get_or-map (least_quotient rows ranks v) ranks k 0 (greatest numbers) inside) ∙ here in
-      subst (IsLowerBoundOf rows) is (low_vector_bounds rows are ranks v rank (least_quotient rows ranks v rank) ranking.each vector.each (Contains-get_or ranks k 0 inside) vector.positive (rank_vector rank))
+      let is : least_quotient rows ranks v rank ≡ greatest numbers =
+      sym (get_or-map (least_quotient rows ranks v) ranks k 0 (greatest numbers) inside) ∙ here in
+      subst (IsLowerBoundOf rows) is
+      (low_vector_bounds rows are ranks v rank (least_quotient rows ranks v rank) ranking.each vector.each
+      (Contains-get_or ranks k 0 inside) vector.positive (rank_vector rank))
 
-  quotient_above : (i : ℕ) → i < length rows.list → quotient_up rows ranks v i ≤ greatest (map (quotient_up rows ranks v) (range_with_len 0 (length ranks)))
+  pub quotient_above : (i : ℕ) → i < length rows.list
+      → quotient_up rows ranks v i ≤ greatest (map (quotient_up rows ranks v) (range_with_len 0 (length ranks)))
   quotient_above i within =
-      greatest_above (map (quotient_up rows ranks v) (range_with_len 0 (length ranks))) (quotient_up rows ranks v i) (Contains-map (quotient_up rows ranks v) (range_with_len 0 (length ranks)) i (Contains-range (length ranks) i (omega (arith, ranking.each, within))))
+      greatest_above (map (quotient_up rows ranks v) (range_with_len 0 (length ranks))) (quotient_up rows ranks v i)
+      (Contains-map (quotient_up rows ranks v) (range_with_len 0 (length ranks)) i
+      (Contains-range (length ranks) i (omega (arith, ranking.each, within))))
 
-  all_above : (high : ℕ) → ((i : ℕ) → i < length rows.list → quotient_up rows ranks v i ≤ high) → IsHighVector rows ranks v high
+  pub all_above : (high : ℕ) → ((i : ℕ) → i < length rows.list → quotient_up rows ranks v i ≤ high)
+      → IsHighVector rows ranks v high
   all_above high most i within =
       let one = vector.positive i 0 (omega (arith, vector.each, within)) in
       let up = (div_ceil_times (scaled_sum rows ranks v i) (slice_index v i) (omega (arith, one))).0 in
@@ -71,6 +84,8 @@ module _ (rows : ScaledRows) (are : AreScaledRows rows) (ranks v : List ℕ) (ra
       elim (cases_lt top (2 ^ 62)) [
         | inl less ↦
             let same : min top (2 ^ 62) ≡ top = omega arith in
-            subst (IsUpperBoundOf rows) (sym same) (high_vector_bounds rows are ranks v top ranking vector.each vector.positive (all_above top quotient_above))
+            subst (IsUpperBoundOf rows) (sym same)
+            (high_vector_bounds rows are ranks v top ranking vector.each vector.positive
+            (all_above top quotient_above))
         | inr more ↦ two_bounds rows are (min top (2 ^ 62)) (omega (arith, small))
       ]

@@ -3,7 +3,7 @@ ghost use Rattle.std.specs.Prelude.{◌≡◌, ◌*◌, ◌^◌, ◌<◌, ◌≤
 ghost use Rattle.ce_rows.specs.Blocks.{IsRanking};
 ghost use Rattle.ce_rows.specs.Rows.{AreScaledRows, IsLowerBoundOf, IsUpperBoundOf};
 ghost use Rattle.ce_cert.specs.Certificate.{IsCertificate, IsLowVector};
-ghost use Rattle.ce_cert.specs.Passes.{IsBestUpTo, IsGreatestUpTo, IsLeastUpTo};
+ghost use Rattle.ce_cert.specs.PassesInside.{IsBestUpTo, IsGreatestUpTo, IsLeastUpTo};
 ghost use Rattle.ce_cert.specs.Quotients.{low_of, low_rank_of, high_of};
 ghost use Rattle.ce_cert.specs.Vectors.{IsVectorOf};
 
@@ -11,36 +11,27 @@ use crate::Bounds;
 use crate::quotient::{CUT, greater_quotient, lesser_quotient};
 use ce_rows::{Rows, block_sum};
 
-// Leaves for each rank the least quotient of its vertices, or the cut where it has none.
-fn least_quotients(rows: &Rows, ranks: &[u32], v: &[u64], least: &mut [u64])
+// One pass over the rows for both ends: leaves for each rank the least quotient of its vertices, or
+// the cut where it has none, and answers the greatest quotient of all vertices, cut to 2^62.
+fn quotients(rows: &Rows, ranks: &[u32], v: &[u64], least: &mut [u64]) -> u64
     requires ranking { IsRanking rows.now.list ranks.now }
     requires vector { IsVectorOf rows.now v.now }
     requires numbers { length least.old ≡ length rows.now.list }
     ensures rows { AreScaledRows rows.now }
     ensures least { (rank : ℕ) → rank < length rows.now.list
         → IsLeastUpTo rows.now ranks.now v.now (length rows.now.list) rank (slice_index least.new rank) }
-{
-    let one = rows.scale().one();
-    least.fill(CUT);
-    for i in 0..rows.len() {
-        let sum = block_sum(rows, ranks, v, i);
-        let rank = ranks[i as usize] as usize;
-        least[rank] = lesser_quotient(least[rank], one, sum, v[i as usize]);
-    }
-}
-
-// The greatest quotient of all vertices, cut to 2^62.
-fn greatest_quotient(rows: &Rows, ranks: &[u32], v: &[u64]) -> u64
-    requires ranking { IsRanking rows.now.list ranks.now }
-    requires vector { IsVectorOf rows.now v.now }
     ensures cut { result ≤ 2 ^ 62 }
     ensures greatest { IsGreatestUpTo rows.now ranks.now v.now (length rows.now.list) result }
 {
     let one = rows.scale().one();
     let mut greatest = 0;
+    least.fill(CUT);
     for i in 0..rows.len() {
         let sum = block_sum(rows, ranks, v, i);
-        greatest = greater_quotient(greatest, one, sum, v[i as usize]);
+        let rank = ranks[i as usize] as usize;
+        let value = v[i as usize];
+        least[rank] = lesser_quotient(least[rank], one, sum, value);
+        greatest = greater_quotient(greatest, one, sum, value);
     }
     greatest
 }
@@ -66,7 +57,7 @@ fn best_rank(ranks: &[u32], numbers: &[u64]) -> (u32, u64)
 /// The Collatz-Wielandt bounds of a vector within the blocks of a ranking, in units of 1/S: the low
 /// end from the rank whose least quotient is greatest, rounded down, the high end from the greatest
 /// quotient of all, rounded up and cut to 2^62. They bound the growth rate of the rows' walks,
-/// whatever the vector is. What `scratch` holds afterwards is left open; no memory is taken.
+/// whatever the vector is. What `scratch` holds afterwards is left open.
 pub fn bounds(rows: &Rows, ranks: &[u32], v: &[u64], scratch: &mut [u64]) -> Bounds
     requires ranking { IsRanking rows.now.list ranks.now }
     requires vector { IsVectorOf rows.now v.now }
@@ -89,9 +80,8 @@ pub fn bounds(rows: &Rows, ranks: &[u32], v: &[u64], scratch: &mut [u64]) -> Bou
       high = result.high;
     }) }
 {
-    least_quotients(rows, ranks, v, scratch);
+    let high = quotients(rows, ranks, v, scratch);
     let (low_rank, low) = best_rank(ranks, scratch);
-    let high = greatest_quotient(rows, ranks, v);
     Bounds {
         low,
         low_rank,

@@ -1,4 +1,6 @@
--- In reading order: power iteration, one step of the relaxation, and the start of a run.
+-- In reading order: power iteration, one step of the relaxation, the start of a run, and what the
+-- fields of a relaxer stand for.
 pub mod PowerIteration
 pub mod Relaxation
 pub mod Start
+pub mod RelaxerInside

@@ -5,17 +5,11 @@ use Rattle.ce_rows.specs.Events.{Shared, actor_of}
 use Rattle.ce_rows.specs.Rows.{ScaledRows, AreScaledRows, EnclosesRows}
 use Rattle.ce_rows.specs.declared.event.Event.{Event}
 use Rattle.ce_cert.specs.Vectors.{IsVectorOf}
-use Rattle.ce_core.specs.Machine.{Kept, Machine, machine_at_start, after_event}
+use Rattle.ce_rows.specs.Actors.{ActorState}
+use Rattle.ce_core.specs.Machine.{Machine, machine_at_start, after_event}
 
 abbrev pub after_events : ScaledRows → List ℕ → Machine → List Event → Machine
 after_events rows ranks m events = fold (after_event rows ranks) m events
-
--- A ranking, a vector and an interval that encloses, called the floor, are where a run may start.
-pub record IsStart (rows : ScaledRows) (ranks start : List ℕ) (low high : ℕ) : Type 0 where
-  pub scaled : AreScaledRows rows
-  pub ranking : IsRanking rows.list ranks
-  pub vector : IsVectorOf rows start
-  pub encloses : EnclosesRows rows low high
 
 -- All events are by one of the first actors, so many.
 abbrev pub AreBy : ℕ → List Event → Type 0
@@ -31,8 +25,8 @@ pub record LiesWithin (low high : ℕ) (s : Shared) : Type 0 where
   pub from : low ≤ s.low
   pub to : s.high ≤ high
 
--- Neither the count of rescalings that were asked for, nor what an actor last saw of it, is above a
--- number.
+-- The greatest number of rescalings that was asked for is at most this one, and so is what each actor
+-- last saw of it.
 pub record HasAskedAtMost (count : ℕ) (m : Machine) : Type 0 where
   pub word : m.shared.shift ≤ count
-  pub seen : All (λ (own : Kept). own.shift ≤ count) m.actors
+  pub seen : All (λ (own : ActorState). own.shift ≤ count) m.actors

@@ -1,18 +1,18 @@
 // Events on the rows of the angle 1/4, from three equal entries and the bounds that they give.
-ghost use Rattle.std.specs.Prelude.{◌≡◌, ◌<◌, length, IfOk, IfSome};
-ghost use Rattle.ce_rows.specs.Events.{actor_of, HasEntryBelow};
+ghost use Rattle.std.specs.Prelude.{◌≡◌, All, length, IfOk, OnOk};
 ghost use Rattle.ce_core.specs.Runs.{HasAskedAtMost};
+ghost use Rattle.ce_core.specs.Script.{IsEventBelow};
 
-use crate::{Core, Event};
+use crate::{Core, Event, parse_script};
 use ce_cert::{Bounds, bounds};
 use ce_rows::Row::{One, Two};
 use ce_rows::{Interval, NoMemory, Rows, RowsMaker, Scale, is_ranking};
 use std::alloc::Global;
-use std::process::Abort;
 use std::test::Fail;
 
 const HALF: u64 = 1 << 57;
 
+// The rows of 1/4.
 fn quarter(alloc: Global, scale: Scale) -> Result<Rows, NoMemory>
     ensures { IfOk result (λ rows. length rows.list ≡ 3) }
 {
@@ -23,7 +23,7 @@ fn quarter(alloc: Global, scale: Scale) -> Result<Rows, NoMemory>
     Ok(maker.finish().with_scale(scale))
 }
 
-// The machine whose floor is the bounds of its start.
+// The machine whose initial enclosure is the bounds of its start.
 fn machine<'a>(alloc: Global, rows: &'a Rows, ranks: &'a [u32]) -> Result<Core<'a>, Fail>
     requires { length rows.now.list ≡ 3 }
     ensures rows { IfOk result (λ core. core.rows ≡ rows.now) }
@@ -36,51 +36,41 @@ fn machine<'a>(alloc: Global, rows: &'a Rows, ranks: &'a [u32]) -> Result<Core<'
         None
     };
     ranking.ok_or("no ranking")?;
+    // The length brings in that the rows are in range.
+    let _len = rows.len();
     let Bounds { low, high, .. } = bounds(rows, ranks, &start, &mut [0; 3]);
     let one = rows.scale().one();
     if low < one || 2 * one < high {
-        return Err(Fail::from("no floor"));
+        return Err(Fail::from("no enclosure"));
     }
     Ok(Core::new(alloc, rows, ranks, &start, Interval { low, high })?)
 }
 
-// An event of one of sixteen actors on one of three entries.
-fn admitted(event: Event) -> Option<Event>
-    ensures same { IfSome result (λ e. e ≡ event) }
-    ensures actor { IfSome result (λ e. actor_of e < 16) }
-    ensures entry { IfSome result (λ e. HasEntryBelow 3 e) }
+// The events that a script spells for a machine.
+fn events_of(alloc: Global, core: &Core<'_>, script: &str) -> Result<Vec<Event>, Fail>
+    ensures { IfOk result (λ events. All (IsEventBelow (length core.now.rows.list)) events.items) }
 {
-    let (actor, entry) = match event {
-        Event::Load { actor, entry }
-        | Event::Relax { actor, entry }
-        | Event::Shrink { actor, entry } => (actor, entry),
-        Event::Low { actor }
-        | Event::High { actor }
-        | Event::Raise { actor }
-        | Event::Lower { actor }
-        | Event::Shift { actor }
-        | Event::Ask { actor }
-        | Event::Halted { actor }
-        | Event::Stop { actor } => (actor, 0),
-    };
-    if actor < 16 && entry < 3 {
-        Some(event)
-    } else {
-        None
-    }
+    Ok(parse_script(alloc, script.as_bytes(), core.len())?)
 }
 
-// Each event has its answer.
-fn play(rt: &impl Abort, core: &mut Core<'_>, events: &[(Event, u64)]) -> Result<(), Fail>
-    requires rows { length core.old.rows.list ≡ 3 }
+// The answers to events.
+fn answers_to(alloc: Global, core: &mut Core<'_>, events: &[Event]) -> Result<Vec<u64>, Fail>
+    requires events { All (IsEventBelow (length core.old.rows.list)) events.now }
     requires asked { HasAskedAtMost 0 core.old.machine }
-    ensures { core.new.rows ≡ core.old.rows }
+    ensures { OnOk result (core.new.rows ≡ core.old.rows) }
 {
-    for (event, want) in events {
-        let event = admitted(*event).ok_or("no event")?;
-        assert_eq!(rt; core.step(event), *want, "{event:?}");
+    let mut answers = Vec::new(alloc);
+    for event in events {
+        answers.push(core.step(*event))?;
     }
-    Ok(())
+    Ok(answers)
+}
+
+// The entries of a machine.
+fn entries_of(core: &Core<'_>) -> [u64; 3]
+    requires { length core.now.rows.list ≡ 3 }
+{
+    [core.entry(0), core.entry(1), core.entry(2)]
 }
 
 #[test]
@@ -88,51 +78,42 @@ fn events_give_their_answers(rt: HostRuntime) -> Result<(), Fail> {
     let rows = quarter(rt.alloc(), Scale::new(32).ok_or("no scale")?)?;
     let ranks = [0; 3];
     let mut core = machine(rt.alloc(), &rows, &ranks)?;
-    play(
-        &rt,
-        &mut core,
-        &[
-            (Event::Load { actor: 0, entry: 2 }, HALF),
-            (Event::Relax { actor: 1, entry: 0 }, 115292150460684697),
-            (Event::Load { actor: 0, entry: 0 }, 115292150460684697),
-            (Event::Raise { actor: 0 }, 5368709120),
-            (Event::Lower { actor: 0 }, 8589934592),
-            (Event::Raise { actor: 2 }, 5368709120),
-            (Event::Low { actor: 1 }, 5368709120),
-            (Event::High { actor: 1 }, 8589934592),
-            (Event::Stop { actor: 0 }, 0),
-            (Event::Halted { actor: 1 }, 0),
-            (Event::Ask { actor: 0 }, 1),
-            (Event::Shift { actor: 1 }, 1),
-            (Event::Ask { actor: 0 }, 1),
-            (Event::Ask { actor: 1 }, 2),
-            (Event::Shift { actor: 15 }, 2),
-        ],
-    )?;
+    let script = "load 0 2\nrelax 1 0\nload 0 0\nraise 0\nlower 0\nraise 2\nlow 1\nhigh 1\nstop 0\n\
+        halted 1\nask 0\nshift 1\nask 0\nask 1\nshift 15\n";
+    let answers: [u64; 15] = [
+        HALF,
+        115292150460684697,
+        115292150460684697,
+        5368709120,
+        8589934592,
+        5368709120,
+        5368709120,
+        8589934592,
+        0,
+        0,
+        1,
+        1,
+        1,
+        2,
+        2,
+    ];
+    let events = events_of(rt.alloc(), &core, script)?;
     assert_eq!(rt;
-        [core.entry(0), core.entry(1), core.entry(2)],
-        [115292150460684697, HALF, HALF]
+        answers_to(rt.alloc(), &mut core, &events)?.as_slice(),
+        answers.as_slice()
     );
+    assert_eq!(rt; entries_of(&core), [115292150460684697, HALF, HALF]);
+    let narrowed = Interval {
+        low: 5368709120,
+        high: 8589934592,
+    };
+    let initial = Interval {
+        low: 4294967296,
+        high: 8589934592,
+    };
     assert_eq!(rt;
-        core.interval(),
-        Interval {
-            low: 5368709120,
-            high: 8589934592
-        }
-    );
-    assert_eq!(rt;
-        core.seen(0),
-        Interval {
-            low: 5368709120,
-            high: 8589934592
-        }
-    );
-    assert_eq!(rt;
-        core.seen(3),
-        Interval {
-            low: 4294967296,
-            high: 8589934592
-        }
+        [core.interval(), core.seen(0), core.seen(3)],
+        [narrowed, narrowed, initial]
     );
     Ok(())
 }
@@ -144,20 +125,17 @@ fn relaxed_entries_narrow_the_interval(rt: HostRuntime) -> Result<(), Fail> {
         (48, 455989462271262, 486499959746813),
     ];
     let ranks = [0; 3];
+    let script = "relax 0 0\nrelax 0 1\nrelax 0 2\nraise 0\nlower 0\n";
     for (exponent, low, high) in table {
         let rows = quarter(rt.alloc(), Scale::new(exponent).ok_or("no scale")?)?;
         let mut core = machine(rt.alloc(), &rows, &ranks)?;
-        play(
-            &rt,
-            &mut core,
-            &[
-                (Event::Relax { actor: 0, entry: 0 }, 115292150460684697),
-                (Event::Relax { actor: 0, entry: 1 }, 161409010644958576),
-                (Event::Relax { actor: 0, entry: 2 }, 186773283746309209),
-                (Event::Raise { actor: 0 }, low),
-                (Event::Lower { actor: 0 }, high),
-            ],
-        )?;
+        let events = events_of(rt.alloc(), &core, script)?;
+        core.play(&events);
+        assert_eq!(rt; core.len(), 3);
+        assert_eq!(rt;
+            entries_of(&core),
+            [115292150460684697, 161409010644958576, 186773283746309209]
+        );
         assert_eq!(rt; core.interval(), Interval { low, high });
     }
     Ok(())
@@ -168,27 +146,26 @@ fn rescaled_entries_keep_the_interval(rt: HostRuntime) -> Result<(), Fail> {
     let rows = quarter(rt.alloc(), Scale::new(32).ok_or("no scale")?)?;
     let ranks = [0; 3];
     let mut core = machine(rt.alloc(), &rows, &ranks)?;
-    let shrink = Event::Shrink { actor: 0, entry: 0 };
-    play(
-        &rt,
-        &mut core,
-        &[
-            (shrink, 1 << 49),
-            (shrink, 1 << 41),
-            (shrink, 1 << 33),
-            (shrink, 1 << 25),
-            (shrink, 1 << 17),
-            (shrink, 1 << 9),
-            (shrink, 2),
-            (shrink, 1),
-            (Event::Raise { actor: 0 }, 4294967296),
-            (Event::Lower { actor: 0 }, 8589934592),
-        ],
-    )?;
+    let script = "shrink 0 0\nshrink 0 0\nshrink 0 0\nshrink 0 0\nshrink 0 0\nshrink 0 0\n\
+        shrink 0 0\nshrink 0 0\nraise 0\nlower 0\n";
+    let answers: [u64; 10] = [
+        1 << 49,
+        1 << 41,
+        1 << 33,
+        1 << 25,
+        1 << 17,
+        1 << 9,
+        2,
+        1,
+        4294967296,
+        8589934592,
+    ];
+    let events = events_of(rt.alloc(), &core, script)?;
     assert_eq!(rt;
-        [core.entry(0), core.entry(1), core.entry(2)],
-        [1, HALF, HALF]
+        answers_to(rt.alloc(), &mut core, &events)?.as_slice(),
+        answers.as_slice()
     );
+    assert_eq!(rt; entries_of(&core), [1, HALF, HALF]);
     Ok(())
 }
 
@@ -201,14 +178,11 @@ fn equal_bounds_stop(rt: HostRuntime) -> Result<(), Fail> {
     let rows = maker.finish();
     let ranks = [0, 1, 2];
     let mut core = machine(rt.alloc(), &rows, &ranks)?;
-    play(
-        &rt,
-        &mut core,
-        &[
-            (Event::Halted { actor: 1 }, 0),
-            (Event::Stop { actor: 3 }, 1),
-            (Event::Halted { actor: 1 }, 1),
-        ],
-    )?;
+    let events = events_of(rt.alloc(), &core, "halted 1\nstop 3\nhalted 1\n")?;
+    let answers: [u64; 3] = [0, 1, 1];
+    assert_eq!(rt;
+        answers_to(rt.alloc(), &mut core, &events)?.as_slice(),
+        answers.as_slice()
+    );
     Ok(())
 }

@@ -1,7 +1,8 @@
 use Rattle.std.proofs.Common.{◌∙◌, ◌*◌, ◌^◌, length, map, sym, ap, subst}
 use Rattle.std.proofs.lemmas.List.{length-map, length-replicate}
-use Rattle.ce_core.specs.Fields.{kept_of}
-use Rattle.ce_core.specs.Machine.{Kept, Machine}
+use Rattle.ce_core.specs.FieldsInside.{kept_of}
+use Rattle.ce_rows.specs.Actors.{ActorState, actor_at_start}
+use Rattle.ce_core.specs.Machine.{Machine}
 use Rattle.ce_core.specs.Sound.{IsSound}
 use Rattle.ce_core.specs.State.{CoreState}
 use Rattle.ce_core.specs.Runs.{HasAskedAtMost}
@@ -13,26 +14,39 @@ use Rattle.ce_core.proofs.core_machine.Core.new.Goals as goal
 pub invariant_of-result : goal.invariant_of-result
 invariant_of-result c =
     let rows = c.args.rows.now in
-    let floor = c.args.floor in
-    let new = made 16 c.in_ok-entries.entries.items c.args.start.now floor.low floor.high (map kept_of c.in_ok-actors_at_start.field-0.items) c.in_ok-entries.ensures.items c.in_ok-actors_at_start.ensures in
-    let sound = start_sound rows c.args.start.now floor.low floor.high (2 ^ rows.exponent) (2 * 2 ^ rows.exponent) 16 c.requires.start c.requires.floor c.requires.low c.requires.high in
+    let initial = c.args.initial in
+    let new =
+    made 16 c.in_ok-entries.entries.items c.args.start.now initial.low initial.high
+    (map kept_of c.in_ok-actors_at_start.field-0.items) c.in_ok-entries.ensures.items
+    c.in_ok-actors_at_start.ensures in
+    let sound =
+    start_sound rows c.args.start.now initial.low initial.high (2 ^ rows.exponent) (2 * 2 ^ rows.exponent) 16
+    c.requires.start.vector c.requires.start.encloses c.requires.start.from c.requires.start.to in
     record {
       rows = c.len-len.ensures.rows;
-      ranking = c.requires.ranking;
-      actors = sym (length-map c.in_ok-actors_at_start.field-0.items kept_of) ∙ ap length c.in_ok-actors_at_start.ensures ∙ length-replicate {A = Kept} 16 (record { copy = c.args.start.now; low = floor.low; high = floor.high; shift = 0 });
-      scratch = c.in_ok-from_slice.ensures.len ∙ c.requires.start.each;
+      ranking = c.requires.start.ranking;
+      actors = sym (length-map c.in_ok-actors_at_start.field-0.items kept_of)
+          ∙ ap length c.in_ok-actors_at_start.ensures
+          ∙ length-replicate {A = ActorState} 16 (actor_at_start c.args.start.now initial.low initial.high);
+      scratch = c.in_ok-from_slice.ensures.len ∙ c.requires.start.vector.each;
       sound = subst (IsSound rows (2 ^ rows.exponent) (2 * 2 ^ rows.exponent)) (sym new) sound;
     }
 
 pub returns-clause-machine : goal.returns-clause-machine
 returns-clause-machine c =
-    let floor = c.args.floor in
-    let new = made 16 c.in_ok-entries.entries.items c.args.start.now floor.low floor.high (map kept_of c.in_ok-actors_at_start.field-0.items) c.in_ok-entries.ensures.items c.in_ok-actors_at_start.ensures in
+    let initial = c.args.initial in
+    let new =
+    made 16 c.in_ok-entries.entries.items c.args.start.now initial.low initial.high
+    (map kept_of c.in_ok-actors_at_start.field-0.items) c.in_ok-entries.ensures.items
+    c.in_ok-actors_at_start.ensures in
     let state : Machine → CoreState = λ n. record { rows = c.args.rows.now; ranks = c.args.ranks.now; machine = n } in
     ap state new
 
 pub returns-clause-asked : goal.returns-clause-asked
 returns-clause-asked c =
-    let floor = c.args.floor in
-    let new = made 16 c.in_ok-entries.entries.items c.args.start.now floor.low floor.high (map kept_of c.in_ok-actors_at_start.field-0.items) c.in_ok-entries.ensures.items c.in_ok-actors_at_start.ensures in
-    subst (HasAskedAtMost 0) (sym new) (asked_at_start 16 c.args.start.now floor.low floor.high)
+    let initial = c.args.initial in
+    let new =
+    made 16 c.in_ok-entries.entries.items c.args.start.now initial.low initial.high
+    (map kept_of c.in_ok-actors_at_start.field-0.items) c.in_ok-entries.ensures.items
+    c.in_ok-actors_at_start.ensures in
+    subst (HasAskedAtMost 0) (sym new) (asked_at_start 16 c.args.start.now initial.low initial.high)

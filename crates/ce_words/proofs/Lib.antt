@@ -1,0 +1,13 @@
+pub mod Sums
+pub mod Logs
+pub mod Counts
+pub mod Held
+pub mod Owners
+pub mod Steps
+pub mod Seats
+pub mod Joins
+pub mod Permits
+pub mod Table
+pub mod Opening
+pub mod TwoLoads
+pub mod Own

@@ -1,0 +1,10 @@
+use Rattle.std.proofs.Common.{rules}
+use Rattle.ce_rows.specs.declared.act.Act.TheVariants.{LoadsStop}
+use Rattle.ce_words.proofs.Table.{allows}
+use Rattle.ce_words.proofs.board.Board.load_stop.Goals as goal
+
+pub load-requires : goal.load-requires
+load-requires c =
+    let seat = c.args.seat.now in
+    let r = c.requires in
+    (r.table, search rules, allows _ _ seat.id seat.me r.run r.live LoadsStop 0 tt)

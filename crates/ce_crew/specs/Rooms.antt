@@ -1,0 +1,48 @@
+-- A worker's room: its private copy and its best vectors. Source: this project's choice.
+use Rattle.std.specs.Prelude.{◌≡◌, ℕ, ◌<◌, ◌^◌, List, length, Contains}
+use Rattle.ce_cert.specs.Certificate.{IsLowVector, IsHighVector}
+use Rattle.ce_cert.specs.Quotients.{low_of, low_rank_of, high_of}
+use Rattle.ce_cert.specs.declared.ends.Bounds.{Bounds}
+use Rattle.ce_cert.specs.Vectors.{IsVectorOf}
+use Rattle.ce_words.specs.Views.{rows_of}
+use Rattle.ce_words.specs.declared.view.Run.{Run}
+use Rattle.ce_rows.specs.declared.act.LogEntry.{LogEntry}
+use Rattle.ce_crew.specs.Best.{IsBestLow, IsBestHigh}
+use Rattle.ce_crew.specs.declared.room.WorkRoom.{WorkRoom}
+
+-- Bounds are the Collatz-Wielandt bounds of a vector, which shows them: the low end within the low
+-- rank, and the high end below 2^62.
+pub record AreBoundsOf (run : Run) (vector : List ℕ) (b : Bounds) : Type 0 where
+  pub low : b.low ≡ low_of (rows_of run) run.ranks vector
+  pub low_rank : b.low_rank ≡ low_rank_of (rows_of run) run.ranks vector
+  pub high : b.high ≡ high_of (rows_of run) run.ranks vector
+  pub occurs : Contains run.ranks b.low_rank
+  pub low_shown : IsLowVector (rows_of run) run.ranks b.low_rank vector b.low
+  pub high_shown : b.high < 2 ^ 62 → IsHighVector (rows_of run) run.ranks vector b.high
+
+-- A room as it is made from a vector with its bounds.
+pub record IsNewRoom (vector : List ℕ) (first : Bounds) (room : WorkRoom) : Type 0 where
+  pub copy : room.copy.items ≡ vector
+  pub scratch : room.scratch.items ≡ vector
+  pub low_vector : room.low_vector.items ≡ vector
+  pub low : room.low ≡ first
+  pub high_vector : room.high_vector.items ≡ vector
+  pub high : room.high ≡ first
+
+-- A room has vectors of a run, and the bounds of its best vectors.
+pub record IsRoomOf (run : Run) (room : WorkRoom) : Type 0 where
+  pub copy : IsVectorOf (rows_of run) room.copy.items
+  pub scratch : length room.scratch.items ≡ length run.rows
+  pub low_vector : IsVectorOf (rows_of run) room.low_vector.items
+  pub low : AreBoundsOf run room.low_vector.items room.low
+  pub high_vector : IsVectorOf (rows_of run) room.high_vector.items
+  pub high : AreBoundsOf run room.high_vector.items room.high
+
+-- Where a room has the best vectors of a log, another room has those of another log, whatever they
+-- began with.
+abbrev pub KeepsBest : Run → List LogEntry → WorkRoom → List LogEntry → WorkRoom → Type 0
+KeepsBest run log room log_after room_after =
+    ((initial : ℕ) (beginning : List ℕ) → IsBestLow run initial beginning log room.low.low room.low_vector.items
+    → IsBestLow run initial beginning log_after room_after.low.low room_after.low_vector.items)
+    × ((initial : ℕ) (beginning : List ℕ) → IsBestHigh run initial beginning log room.high.high room.high_vector.items
+    → IsBestHigh run initial beginning log_after room_after.high.high room_after.high_vector.items)

@@ -1,0 +1,15 @@
+pub mod Joins
+pub mod Closing
+mod ClosingEnds
+pub mod FloorEnds
+pub mod Assembling
+pub mod After
+pub mod SolvedRuns
+pub mod NoTurns
+mod LoneLogs
+pub mod LoneRuns
+pub mod LoneClosing
+pub mod NoTurnsClosing
+pub mod Enclosing
+pub mod ReadingsAround
+pub mod ReadingEnds

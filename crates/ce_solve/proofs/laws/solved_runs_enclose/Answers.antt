@@ -1,0 +1,14 @@
+use Rattle.ce_solve.proofs.Enclosing.{encloses, inside, readings_enclose}
+use Rattle.ce_solve.proofs.laws.solved_runs_enclose.Goals as goal
+
+pub returns-clause-encloses : goal.returns-clause-encloses
+returns-clause-encloses c = λ rows rounds turns workers closing are h.
+    encloses rows rounds turns workers closing h are
+
+pub returns-clause-inside : goal.returns-clause-inside
+returns-clause-inside c = λ rows rounds turns workers ranks closing are numbering h.
+    inside rows rounds turns workers closing h ranks are numbering
+
+pub returns-clause-readings : goal.returns-clause-readings
+returns-clause-readings c = λ rows rounds turns workers closing are h.
+    readings_enclose rows rounds turns workers closing h are

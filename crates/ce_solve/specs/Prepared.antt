@@ -1,0 +1,54 @@
+-- What a run begins with. Source: this project's choice.
+--
+-- IsPrepared     components, a vector of power iteration, and its bounds (`prepare`)
+-- IsOpenedFor    the start of a run on these: the vector scaled up, the bounds as initial enclosure
+--                (`open_board`, clause `run`)
+use Rattle.std.specs.Prelude.{◌≡◌, ◌*◌, ◌^◌, ◌<◌, ◌≤◌, ℕ, List, All, Contains}
+use Rattle.ce_cert.specs.Certificate.{IsLowVector, IsHighVector}
+use Rattle.ce_cert.specs.Quotients.{low_of, low_rank_of, high_of}
+use Rattle.ce_cert.specs.Vectors.{IsVectorOf}
+use Rattle.ce_cert.specs.declared.ends.Bounds.{Bounds}
+use Rattle.ce_comp.specs.Numbering.{IsNumbering}
+use Rattle.ce_rows.specs.Blocks.{IsRanking}
+use Rattle.ce_rows.specs.Rows.{ScaledRows, AreScaledRows, EnclosesRows}
+use Rattle.ce_vector.specs.PowerIteration.{power_vector}
+use Rattle.ce_vector.specs.Start.{scaled_up}
+use Rattle.ce_words.specs.Views.{rows_of}
+use Rattle.ce_words.specs.declared.view.Run.{Run}
+use Rattle.ce_crew.specs.Gains.{IsRunStart}
+use Rattle.ce_solve.specs.declared.preparing.Prepared.{Prepared}
+
+-- Bounds are the Collatz-Wielandt bounds of a vector, which shows them.
+pub record AreBoundsIn (rows : ScaledRows) (ranks vector : List ℕ) (b : Bounds) : Type 0 where
+  pub low : b.low ≡ low_of rows ranks vector
+  pub low_rank : b.low_rank ≡ low_rank_of rows ranks vector
+  pub high : b.high ≡ high_of rows ranks vector
+  pub occurs : Contains ranks b.low_rank
+  pub low_shown : IsLowVector rows ranks b.low_rank vector b.low
+  pub high_shown : b.high < 2 ^ 62 → IsHighVector rows ranks vector b.high
+
+-- The components of rows, their vector of power iteration, and its bounds.
+pub record IsPrepared (rows : ScaledRows) (rounds : ℕ) (p : Prepared) : Type 0 where
+  pub are_rows : AreScaledRows rows
+  pub numbering : IsNumbering rows.list p.ranks.ranks
+  pub ranking : IsRanking rows.list p.ranks.ranks
+  pub vector : p.vector.items ≡ power_vector rows.list p.ranks.ranks rounds
+  pub is_vector : IsVectorOf rows p.vector.items
+  pub small : All (λ x. x < 2 ^ 58) p.vector.items
+  pub bounds : AreBoundsIn rows p.ranks.ranks p.vector.items p.bounds
+  pub encloses : EnclosesRows rows p.bounds.low p.bounds.high
+  pub at_least_one : 2 ^ rows.exponent ≤ p.bounds.low
+  pub at_most_two : p.bounds.high ≤ 2 * 2 ^ rows.exponent
+
+-- The start of a run on what was prepared.
+pub record IsOpenedFor (rows : ScaledRows) (p : Prepared) (run : Run) : Type 0 where
+  pub rows_are : rows_of run ≡ rows
+  pub ranks_are : run.ranks ≡ p.ranks.ranks
+  pub low : run.initial.low ≡ p.bounds.low
+  pub high : run.initial.high ≡ p.bounds.high
+  pub start_is : run.start ≡ scaled_up p.vector.items
+  pub starts : IsRunStart run
+
+-- A run was opened for what was prepared, of some rows and rounds.
+abbrev pub IsRunFor : Prepared → Run → Type 0
+IsRunFor p run = (rows : ScaledRows) × (rounds : ℕ) × IsPrepared rows rounds p × IsOpenedFor rows p run

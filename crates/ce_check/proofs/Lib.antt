@@ -1,0 +1,10 @@
+pub mod ReadLaws
+pub mod FlawLaws
+pub mod ItemVerdicts
+pub mod CheckLaws
+pub mod EndLaws
+pub mod OrbitRows
+pub mod OneFront
+pub mod OneItem
+pub mod OneVerdict
+pub mod SomeVerdict

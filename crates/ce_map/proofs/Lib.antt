@@ -1,0 +1,16 @@
+pub mod DigitValues
+pub mod NumberLaws
+pub mod Scanning
+pub mod FieldLaws
+pub mod LineLaws
+pub mod ListLaws
+pub mod NextLaws
+pub mod Fronts
+pub mod ItemLaws
+pub mod WalkLaws
+pub mod WalkJoins
+pub mod Appended
+pub mod Unique
+pub mod NextPart
+pub mod PutLaws
+pub mod PartLaws

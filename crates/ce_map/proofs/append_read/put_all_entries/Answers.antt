@@ -1,0 +1,42 @@
+use Rattle.std.proofs.Common.{[], append-nil, arith, sym}
+use Rattle.ce_map.proofs.PutLaws.{extends_after, never_none, put_all, put_more, small}
+use Rattle.ce_map.proofs.append_read.put_all_entries.Goals as goal
+
+pub loop-i-init : goal.loop-i-init
+loop-i-init c = record {
+  extends = ([], sym (append-nil c.args.text.now.items));
+  put = λ base list is. record { rest = is; put = sym (append-nil c.args.text.now.items) };
+}
+
+pub returns-in_default-clause-ok : goal.returns-in_default-clause-ok
+returns-in_default-clause-ok c = λ base list is.
+    absurd (never_none 16 (omega arith) (omega arith) c.args.numbers c.loop-i.left c.args.text.now.items
+    c.loop-i.text.items c.loop-i.i c.count-count.result c.loop-i.invariant.put c.count-count.ensures
+    c.loop-i-test.true c.next.result c.next.ensures.some c.in_default.is base list is)
+
+pub returns-in_err-put_entry-clause-extends : goal.returns-in_err-put_entry-clause-extends
+returns-in_err-put_entry-clause-extends c =
+    extends_after c.args.text.now.items c.loop-i.text.items c.put_entry.new.text.items c.loop-i.invariant.extends
+    c.put_entry.ensures.extends
+
+pub loop-i-preserved : goal.loop-i-preserved
+loop-i-preserved c = record {
+  extends =
+      extends_after c.args.text.now.items c.loop-i.text.items c.put_entry.new.text.items c.loop-i.invariant.extends
+      c.put_entry.ensures.extends;
+  put = put_more 16 (omega arith) (omega arith) c.args.numbers c.loop-i.left c.args.text.now.items c.loop-i.text.items
+      c.loop-i.i c.count-count.result c.loop-i.invariant.put c.count-count.ensures c.loop-i-test.true c.in-Some.entry
+      c.in-Some.ensures.some c.next.new.self c.put_entry.new.text.items c.next.ensures.rest
+      c.in_ok-put_entry.ensures.ok;
+}
+
+pub returns-clause-ok : goal.returns-clause-ok
+returns-clause-ok c =
+    put_all 16 (omega arith) (omega arith) c.args.numbers c.loop-i.left c.args.text.now.items c.loop-i.text.items
+    c.loop-i.i c.count-count.result c.loop-i.invariant.put c.count-count.ensures c.loop-i-test.false
+
+pub put_entry-requires : goal.put_entry-requires
+put_entry-requires c =
+    small 16 (omega arith) (omega arith) c.args.numbers c.loop-i.left c.args.text.now.items c.loop-i.text.items
+    c.loop-i.i c.count-count.result c.loop-i.invariant.put c.count-count.ensures c.loop-i-test.true c.in-Some.entry
+    c.in-Some.ensures.some c.requires

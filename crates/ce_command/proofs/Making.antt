@@ -1,65 +1,92 @@
 -- Commands from what is given.
-use Rattle.std.proofs.Common.{◌≡◌, ◌<◌, ◌∙◌, ℕ, Bool, true, false, [], Bor, Option, Some, None, Result, length, refl, ap, option_map, slice_index_or, is_some}
-use Rattle.std.specs.Prelude.{unwrap_or, if◌then◌else◌}
-use Rattle.std.proofs.lemmas.List.Folds.{list_all_at}
+use Rattle.std.proofs.Common.{◌≡◌, ◌<◌, ◌+◌, ◌&&◌, ◌∷◌, ◌∙◌, ℕ, Bool, true, false, not, List, [], Bor, Option, Some}
+use Rattle.std.proofs.Common.{None, length, refl, sym, ap, ap₂, arith, map, option_map, slice_index_or, is_some, take}
+use Rattle.std.specs.Prelude.{unwrap_or}
+use Rattle.std.proofs.Math.ListN.{get_or-map}
+use Rattle.std.proofs.lemmas.List.{length-map, take_more}
+use Rattle.std.proofs.lemmas.List.Folds.{list_all_at, list_all-append}
 use Rattle.clap.specs.Words.{Text, first_value, found_of}
 use Rattle.clap.specs.declared.parser.matches.ArgMatches.{ArgMatches}
 use Rattle.clap.proofs.WalkLemmas.{first_value-rows}
-use Rattle.ce_angle.specs.Fraction.{Fraction}
-use Rattle.ce_angle.specs.Typed.{angle_of_text}
-use Rattle.ce_angle.specs.declared.angle.AngleError.{AngleError}
-use Rattle.ce_command.specs.Options.{Given, OptionForm, number_given, number_or}
+use Rattle.ce_command.specs.Options.{Given, OptionForm, number_given, number_or, option_form}
+use Rattle.ce_command.specs.declared.options.NumberOption.{NumberOption}
 use Rattle.ce_command.specs.Form.{CommandForm}
-use Rattle.ce_command.specs.Table.{form_of, fraction, rounds, turns, scale}
-use Rattle.ce_command.specs.Meaning.{command_from, has_good_numbers, text_in}
+use Rattle.ce_command.specs.Meaning.{are_good, command_from, has_good_numbers, number_at, text_in}
 use Rattle.ce_command.specs.Reading.{given_by}
-use Rattle.ce_command.specs.declared.name.CommandName.TheVariants as name
 use Rattle.ce_command.specs.declared.command.Command.{Command}
-use Rattle.ce_command.specs.declared.command.Command.TheVariants as command
 
 -- what `get_str` answers is what is given
-pub word_given : (matches : ArgMatches) (id : Text) (word : Option (Bor Text)) → option_map (λ s. s.now) word ≡ first_value (found_of matches) id
+pub word_given : (matches : ArgMatches) (id : Text) (word : Option (Bor Text))
+    → option_map (λ s. s.now) word ≡ first_value (found_of matches) id
     → option_map (λ s. s.now) word ≡ given_by matches id
 word_given matches id word found = found ∙ first_value-rows (found_of matches) id
 
-now_or : (word : Option (Bor Text)) (other : Bor Text) → (unwrap_or word other).now ≡ unwrap_or (option_map (λ s. s.now) word) other.now
+now_or : (word : Option (Bor Text)) (other : Bor Text)
+    → (unwrap_or word other).now ≡ unwrap_or (option_map (λ s. s.now) word) other.now
 now_or None other = refl
 now_or (Some s) other = refl
 
-pub text_given : (matches : ArgMatches) (id : Text) (word : Option (Bor Text)) (other : Bor Text) → option_map (λ s. s.now) word ≡ first_value (found_of matches) id
+pub text_given : (matches : ArgMatches) (id : Text) (word : Option (Bor Text)) (other : Bor Text)
+    → option_map (λ s. s.now) word ≡ first_value (found_of matches) id
     → other.now ≡ [] → (unwrap_or word other).now ≡ text_in (given_by matches) id
 text_given matches id word other found empty =
     now_or word other ∙ λ i. unwrap_or (word_given matches id word found i) (empty i)
 
-pub number_found : (matches : ArgMatches) (option : OptionForm) (word : Option (Bor Text)) → option_map (λ s. s.now) word ≡ first_value (found_of matches) option.name
+pub number_found : (matches : ArgMatches) (option : OptionForm) (word : Option (Bor Text))
+    → option_map (λ s. s.now) word ≡ first_value (found_of matches) option.name
     → number_or option.default option.numbers (option_map (λ s. s.now) word) ≡ number_given (given_by matches) option
 number_found matches option word found =
     ap (number_or option.default option.numbers) (word_given matches option.name word found)
 
-none_if : (b : Bool) (o : Option Command) → b ≡ false → None ≡ (if b then o else None)
-none_if true o e = cc
-none_if false o e = refl
+-- numbers that are tried one after another
+pub good_more : (given : Given) (options : List OptionForm) (k : ℕ) (d : OptionForm) → k < length options
+    → are_good given (take k options) ≡ true
+    → is_some (number_given given (slice_index_or options k d)) ≡ true → are_good given (take (k + 1) options) ≡ true
+good_more given options k d within so_far here =
+    rw (
+      take_more options k d within,
+      list_all-append (λ (o : OptionForm). is_some (number_given given o))
+          (take k options) (slice_index_or options k d ∷ []),
+    ) (rw (so_far, here) refl)
 
--- with a number out of form or range no command is made
-pub without_number : (form : CommandForm) (given : Given) (k : ℕ) (option : OptionForm) → k < length form.options
-    → None ≡ number_given given (slice_index_or form.options k option) → None ≡ command_from form given
-without_number form given k option lt none =
-    let bad : is_some (number_given given (slice_index_or form.options k option)) ≡ false = rw (← none) refl in
-    none_if (has_good_numbers form given) _ (list_all_at (λ (o : OptionForm). is_some (number_given given o)) form.options k option lt bad)
+pub bad_here : (given : Given) (options : List OptionForm) (k : ℕ) (d : OptionForm) → k < length options
+    → is_some (number_given given (slice_index_or options k d)) ≡ false → are_good given options ≡ false
+bad_here given options k d within here = list_all_at (λ (o : OptionForm). is_some (number_given given o)) options k d
+    within here
 
-pub angle_made : (given : Given) (angle : Result Fraction AngleError) (r t s : ℕ) → angle ≡ angle_of_text (text_in given fraction)
-    → Some r ≡ number_given given rounds → Some t ≡ number_given given turns → Some s ≡ number_given given scale
-    → Some (command.Angle angle r t s) ≡ command_from (form_of name.Angle) given
-unfolding form_of
-angle_made given angle r t s read first second third = rw (read, ← first, ← second, ← third) refl
+-- the command that is made, or none
+pub made_of : (form : CommandForm) (given : Given) (made : Command) → has_good_numbers form given ≡ true
+    → made ≡ form.command (text_in given) (number_at given)
+    → Some made ≡ command_from form given
+made_of form given made good is = rw (good, is) refl
 
-pub show_made : (given : Given) (angle : Result Fraction AngleError) → angle ≡ angle_of_text (text_in given fraction)
-    → Some (command.Show angle) ≡ command_from (form_of name.Show) given
-unfolding form_of
-show_made given angle read = rw read refl
+pub none_of : (form : CommandForm) (given : Given) → has_good_numbers form given ≡ false
+    → None ≡ command_from form given
+none_of form given bad = rw bad refl
 
-pub replay_made : (given : Given) (angle : Result Fraction AngleError) (r s : ℕ) → angle ≡ angle_of_text (text_in given fraction)
-    → Some r ≡ number_given given rounds → Some s ≡ number_given given scale
-    → Some (command.Replay angle r s) ≡ command_from (form_of name.Replay) given
-unfolding form_of
-replay_made given angle r s read first second = rw (read, ← first, ← second) refl
+-- the same numbers by the row and by the form
+pub same_numbers : (form : CommandForm) (given : Given) (numbers options : List OptionForm) (a b : Bool)
+    → numbers ≡ form.numbers → options ≡ form.options
+    → a ≡ are_good given numbers → b ≡ are_good given options → (a && b) ≡ has_good_numbers form given
+same_numbers form given numbers options a b first second one two =
+    let tests : Bool → Bool → Bool = λ x y. x && y in
+    ap₂ tests (one ∙ ap (are_good given) first) (two ∙ ap (are_good given) second)
+
+-- the same of options of the code
+module _ (given : Given) (options : List NumberOption) (k : ℕ) (d : NumberOption) (r : Option ℕ) (none : Bool)
+    (within : k < length options)
+    (read : r ≡ number_given given (option_form (slice_index_or options k d))) (test : is_some r ≡ not none) where
+  here : is_some (number_given given (slice_index_or (map option_form options) k (option_form d))) ≡ not none
+  here =
+      ap (λ (o : OptionForm). is_some (number_given given o)) (get_or-map option_form options k d)
+      ∙ ap (λ (n : Option ℕ). is_some n) (sym read) ∙ test
+
+  inside : k < length (map option_form options)
+  inside = omega (arith, within, length-map options option_form)
+
+  pub bad_option : none ≡ true → false ≡ are_good given (map option_form options)
+  bad_option is = sym (bad_here given (map option_form options) k (option_form d) inside (here ∙ ap not is))
+
+  pub good_option : none ≡ false → are_good given (take k (map option_form options)) ≡ true
+      → are_good given (take (k + 1) (map option_form options)) ≡ true
+  good_option is so_far = good_more given (map option_form options) k (option_form d) inside so_far (here ∙ ap not is)

@@ -1,10 +1,12 @@
 -- Where `clap` finds no fault in words, each positional word is there.
-use Rattle.std.proofs.Common.{◌≡◌, ◌∙◌, ◌<◌, ◌+◌, ◌∷◌, ◌&&◌, ℕ, Bool, true, false, not, zero, suc, List, [], Some, length, refl, sym, subst, arith, is_some}
+use Rattle.std.proofs.Common.{◌≡◌, ◌∙◌, ◌<◌, ◌+◌, ◌∷◌, ◌&&◌, ℕ, Bool, true, false, not, zero, suc, List, [], Some}
+use Rattle.std.proofs.Common.{length, refl, sym, subst, arith, is_some}
 use Rattle.std.specs.Prelude.{find, slice_get}
 use Rattle.std.specs.List.{Contains, list_all, list_any}
 use Rattle.std.specs.Str.{bytes_eq}
 use Rattle.std.proofs.Math.Bool.{and-false}
-use Rattle.clap.specs.Walk.{Held, Row, Rule, Text, arg_by_id, finished, first_of, nothing_held, settled, walk, walk_from}
+use Rattle.clap.specs.Walk.{Held, Row, Rule, Text, arg_by_id, finished, first_of, nothing_held, settled, walk}
+use Rattle.clap.specs.Walk.{walk_from}
 use Rattle.clap.specs.Simple.{Shape, argument_words, built, names_of}
 use Rattle.clap.specs.Takes.{is_given}
 use Rattle.clap.specs.Kinds.{check_kinds}
@@ -14,16 +16,18 @@ use Rattle.clap.proofs.FaultLemmas.{leaf_fault}
 use Rattle.ce_command.specs.Form.{CommandForm, app_of_form}
 use Rattle.ce_command.specs.Table.{app_named, form_of}
 use Rattle.ce_command.specs.Meaning.{given_to}
-use Rattle.ce_command.specs.declared.name.CommandName.{CommandName}
+use Rattle.ce_command.specs.declared.command.CommandName.{CommandName}
 use Rattle.ce_command.proofs.Values.{AreFull, IsFull, is_single, first_empty, settled_full, walk_full}
 use Rattle.ce_command.proofs.PlainWalk.{ServesFrom, either_false, ready_positional}
 use Rattle.ce_command.proofs.PlainForm.{Fits, no_defaults, top_of}
-use Rattle.ce_command.proofs.PlainMeaning.{fits}
+use Rattle.ce_command.proofs.TableRows.{fits}
 
 -- what is found fails a test that all fail
-found_fails : (test p : Rule → Bool) (rules : List Rule) (a : Rule) → list_any p rules ≡ false → find test rules ≡ Some a → p a ≡ false
+found_fails : (test p : Rule → Bool) (rules : List Rule) (a : Rule) → list_any p rules ≡ false
+    → find test rules ≡ Some a → p a ≡ false
 found_fails test p [] a none e = cc
-found_fails test p (x ∷ xs) a none e = go (test x) refl (found_fails test p xs a (either_false (p x) (list_any p xs) none).1)
+found_fails test p (x ∷ xs) a none e =
+    go (test x) refl (found_fails test p xs a (either_false (p x) (list_any p xs) none).1)
   where
     go : (b : Bool) → test x ≡ b → (find test xs ≡ Some a → p a ≡ false) → p a ≡ false
     go true here rest =
@@ -41,7 +45,8 @@ given_first : (id : Text) (rows : List Row) → AreFull rows → is_given id row
 given_first id [] full given = cc
 given_first id (r ∷ rs) full given = go (bytes_eq r.id id) refl (given_first id rs full.1)
   where
-    go : (b : Bool) → bytes_eq r.id id ≡ b → (is_given id rs ≡ true → is_some (first_of id rs) ≡ true) → is_some (first_of id (r ∷ rs)) ≡ true
+    go : (b : Bool) → bytes_eq r.id id ≡ b → (is_given id rs ≡ true → is_some (first_of id rs) ≡ true)
+        → is_some (first_of id (r ∷ rs)) ≡ true
     go true here rest = rw here (first_value r.values full.0)
     go false here rest = rw here (rest (rw here at given))
 
@@ -64,15 +69,18 @@ not_false true e = refl
 not_false false e = cc
 
 -- what the last step of a reading without a fault says of the rows at its end
-given_where_checked : (s : Shape) (rows : List Row) (id : Text) → s.arg_required_else_help ≡ false → s.subcommand_required ≡ false → HasRule s id
+given_where_checked : (s : Shape) (rows : List Row) (id : Text) → s.arg_required_else_help ≡ false
+    → s.subcommand_required ≡ false → HasRule s id
     → check_fault s rows false ≡ [] → is_given id rows ≡ true
 given_where_checked s rows id no_help no_subcommand has free =
     let wanted : check_kinds false false (list_any (λ a. a.required && not (is_given a.id rows)) s.rules) ≡ [] =
     rw (no_help, no_subcommand, and-false s.subcommand_negates_reqs) at free in
     not_false (is_given id rows)
-    (found_fails (λ a. bytes_eq a.id id) (λ a. a.required && not (is_given a.id rows)) s.rules (ready_positional has.place id) (none_wanted _ wanted) has.rule)
+    (found_fails (λ a. bytes_eq a.id id) (λ a. a.required && not (is_given a.id rows)) s.rules
+    (ready_positional has.place id) (none_wanted _ wanted) has.rule)
 
-module _ (s : Shape) (single : list_all is_single s.rules ≡ true) (words : List Text) (free : level_fault s [] nothing_held words false [] ≡ []) where
+module _ (s : Shape) (single : list_all is_single s.rules ≡ true) (words : List Text)
+    (free : level_fault s [] nothing_held words false [] ≡ []) where
   abbrev end : Held
   end = (walk s.rules [] nothing_held words).held
 
@@ -90,22 +98,29 @@ module _ (s : Shape) (single : list_all is_single s.rules ≡ true) (words : Lis
       record { full = settled_full s single end more.0 full.rows; checked = last.1 }
 
 -- of a command that fits
-there : (form : CommandForm) → Fits form → (words : List Text) (id : Text) → fault_of (app_of_form form) words ≡ [] → Contains form.positionals id
+there : (form : CommandForm) → Fits form → (words : List Text) (id : Text) → fault_of (app_of_form form) words ≡ []
+    → Contains form.positionals id
     → is_some (first_of id (matches_of (app_of_form form) words)) ≡ true
 there form fit words id free among =
     let app = app_of_form form in
     let after = argument_words app words in
     let s = top_of form in
     let level : level_fault (top_of form) [] nothing_held (argument_words (app_of_form form) words) false [] ≡ [] =
-    sym (leaf_fault (built (app_of_form form)) nothing_held (argument_words (app_of_form form) words) fit.leaf) ∙ free in
+    sym (leaf_fault (built (app_of_form form)) nothing_held (argument_words (app_of_form form) words) fit.leaf)
+    ∙ free in
     let at_end = ends (top_of form) fit.single (argument_words (app_of_form form) words) level in
-    let same : finished (top_of form).rules (walk (top_of form).rules [] nothing_held (argument_words (app_of_form form) words)).held
-    ≡ (settled (top_of form).rules (walk (top_of form).rules [] nothing_held (argument_words (app_of_form form) words)).held).rows = no_defaults (top_of form).rules _ fit.defaults in
+    let same : finished (top_of form).rules
+    (walk (top_of form).rules [] nothing_held (argument_words (app_of_form form) words)).held
+    ≡ (settled (top_of form).rules
+    (walk (top_of form).rules [] nothing_held (argument_words (app_of_form form) words)).held).rows = no_defaults
+    (top_of form).rules _ fit.defaults in
     let full = subst AreFull (sym same) at_end.full in
-    let given = given_where_checked (top_of form) _ id fit.no_help fit.no_subcommand (has_rule (top_of form) form.positionals 1 fit.serves id among) at_end.checked in
+    let given = given_where_checked (top_of form) _ id fit.no_help fit.no_subcommand
+    (has_rule (top_of form) form.positionals 1 fit.serves id among) at_end.checked in
     let none : names_of (built (app_of_form form)) ≡ [] = rw fit.leaf refl in
     rw none (given_first id _ full given)
 
-pub positional_there : (name : CommandName) (words : List Text) (id : Text) → fault_of (app_named name) words ≡ [] → Contains (form_of name).positionals id
+pub positional_there : (name : CommandName) (words : List Text) (id : Text) → fault_of (app_named name) words ≡ []
+    → Contains (form_of name).positionals id
     → is_some (given_to name words id) ≡ true
 positional_there name words id free among = there (form_of name) (fits name) words id free among

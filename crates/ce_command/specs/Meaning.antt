@@ -1,6 +1,7 @@
 -- What a list of words means. Source: this project's choice, over what `clap` says of the words of a
 -- simple command.
-use Rattle.std.specs.Prelude.{◌≡◌, ◌≢◌, ◌∷◌, ℕ, Bool, true, false, List, [], Option, None, Some, find, is_some, if◌then◌else◌, option_and_then, unwrap_or}
+use Rattle.std.specs.Prelude.{◌&&◌, ◌≡◌, ◌≢◌, ◌∷◌, ℕ, Bool, true, false, List, [], Option, None, Some, find, is_some}
+use Rattle.std.specs.Prelude.{if◌then◌else◌, option_and_then, unwrap_or}
 use Rattle.std.specs.List.{list_all}
 use Rattle.std.specs.Str.{bytes_eq}
 use Rattle.clap.specs.Walk.{is_empty}
@@ -8,16 +9,19 @@ use Rattle.clap.specs.Words.{App, Text, fault_of, first_of, matches_of, takes}
 use Rattle.ce_command.specs.Options.{Given, OptionForm, number_given}
 use Rattle.ce_command.specs.Form.{CommandForm, app_of_form}
 use Rattle.ce_command.specs.Table.{NameCommand, all_names, app_named, form_of}
-use Rattle.ce_command.specs.declared.name.CommandName.{CommandName}
+use Rattle.ce_command.specs.declared.command.CommandName.{CommandName}
 use Rattle.ce_command.specs.declared.command.Command.{Command}
 
 -- the command that a word names
 abbrev pub name_of : Text → Option CommandName
 name_of word = find (λ name. bytes_eq (form_of name).name word) all_names
 
--- No number that is given is out of form or range.
+-- No number of these that is given is out of form or range.
+abbrev pub are_good : Given → List OptionForm → Bool
+are_good given options = list_all (λ option. is_some (number_given given option)) options
+
 abbrev pub has_good_numbers : CommandForm → Given → Bool
-has_good_numbers form given = list_all (λ option. is_some (number_given given option)) form.options
+has_good_numbers form given = are_good given form.numbers && are_good given form.options
 
 -- the text of a positional word; words in which clap finds no fault have each
 abbrev pub text_in : Given → Text → Text
@@ -55,6 +59,12 @@ given_to name words = given_in (app_named name) words
 pub record AreTaken (name : CommandName) (words : List Text) : Type 0 where
   pub names : NameCommand name words
   pub taken : takes (app_named name) words ≡ true
+
+-- Words that `clap` takes, with each number that they give in form and in range.
+pub record AreGood (words : List Text) : Type 0 where
+  pub name : CommandName
+  pub taken : AreTaken name words
+  pub good : has_good_numbers (form_of name) (given_to name words) ≡ true
 
 -- Words name no command. No words at all are among these.
 abbrev pub NameNone : List Text → Type 0

@@ -1,12 +1,13 @@
 // What is true of all words. Each law stands on a function that does nothing.
-ghost use Rattle.std.specs.Prelude.{◌≡◌, ◌⊎◌, ◌↔◌, Contains, IsSome, IsTrue, List, [], ℕ, None, Some};
+ghost use Rattle.std.specs.Prelude.{◌≡◌, ◌⊎◌, ◌↔◌, Contains, IsSome, IsTrue, List, [], ℕ, None};
+ghost use Rattle.std.specs.Prelude.{Some};
 ghost use Rattle.clap.specs.Words.{fault_of, takes};
-ghost use Rattle.ce_command.specs.Limits.{IsWithinLimits};
-ghost use Rattle.ce_command.specs.Meaning.{AreFaulty, GiveBadNumber, NameNone, command_from, command_of, given_to};
+ghost use Rattle.ce_command.specs.Meaning.{AreFaulty, GiveBadNumber, NameNone, command_from};
+ghost use Rattle.ce_command.specs.Meaning.{command_of, given_to};
 ghost use Rattle.ce_command.specs.Plain.{IsPlain, PlainWords, given_plainly, spelled};
-ghost use Rattle.ce_command.specs.Table.{app_named, form_of};
+ghost use Rattle.ce_command.specs.Table.{IsWithinLimits, app_named, form_of};
 ghost use Rattle.ce_command.specs.declared.command.Command.{Command};
-ghost use Rattle.ce_command.specs.declared.name.CommandName.{CommandName};
+ghost use Rattle.ce_command.specs.declared.command.CommandName.{CommandName};
 
 /// Words are no command exactly where they name none, where `clap` finds a fault in them, and where
 /// a number is out of form or range.
@@ -32,6 +33,7 @@ pub fn commands_are_limited()
 
 /// Where `clap` finds no fault in words, each positional word is there.
 pub fn positional_words_are_there()
-    ensures { (name : CommandName) (words : List (List ℕ)) (id : List ℕ) → fault_of (app_named name) words ≡ []
+    ensures { (name : CommandName) (words : List (List ℕ)) (id : List ℕ)
+        → fault_of (app_named name) words ≡ []
         → Contains (form_of name).positionals id → IsSome (given_to name words id) }
 {}

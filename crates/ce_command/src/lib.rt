@@ -8,16 +8,15 @@
 
 mod command;
 mod laws;
-mod name;
 mod options;
 mod parsing;
 #[cfg(test)]
 mod tests;
 mod words;
 
-pub use command::{Command, WordsError};
+pub use command::Command;
 pub use laws::{
     commands_are_limited, plain_words_mean_what_they_spell, positional_words_are_there,
     words_are_no_command_for_a_cause,
 };
-pub use words::read_words;
+pub use words::{WordsError, read_words};

@@ -1,4 +1,4 @@
-// Options that take a number.
+// Options, and the positional words of commands.
 ghost use Rattle.std.specs.Prelude.{◌≡◌};
 ghost use Rattle.ce_command.specs.Options.{number_in, small_number};
 
@@ -30,8 +30,32 @@ pub(crate) const ROUNDS: NumberOption = NumberOption {
 
 pub(crate) const TURNS: NumberOption = NumberOption {
     name: "turns",
-    default: 0,
-    numbers: Numbers::Between { least: 0, most: 0 },
+    default: 400,
+    numbers: Numbers::Between {
+        least: 0,
+        most: 100_000,
+    },
+};
+
+pub(crate) const WORKERS: NumberOption = NumberOption {
+    name: "workers",
+    default: 2,
+    numbers: Numbers::Between { least: 1, most: 16 },
+};
+
+pub(crate) const SESSIONS: NumberOption = NumberOption {
+    name: "sessions",
+    default: 1,
+    numbers: Numbers::Between { least: 1, most: 8 },
+};
+
+pub(crate) const READS: NumberOption = NumberOption {
+    name: "reads",
+    default: 10,
+    numbers: Numbers::Between {
+        least: 1,
+        most: 1000,
+    },
 };
 
 pub(crate) const SCALE: NumberOption = NumberOption {
@@ -39,6 +63,82 @@ pub(crate) const SCALE: NumberOption = NumberOption {
     default: 32,
     numbers: Numbers::Exponents,
 };
+
+/// The number of the first angle of a probe, and how many angles it has.
+pub(crate) const START: NumberOption = NumberOption {
+    name: "start",
+    default: 0,
+    numbers: Numbers::Between {
+        least: 0,
+        most: 1_000_000_000,
+    },
+};
+
+pub(crate) const COUNT: NumberOption = NumberOption {
+    name: "count",
+    default: 1,
+    numbers: Numbers::Between {
+        least: 1,
+        most: 10_000,
+    },
+};
+
+/// The degree of a polynomial.
+pub(crate) const DEGREE: NumberOption = NumberOption {
+    name: "degree",
+    default: 2,
+    numbers: Numbers::Between { least: 2, most: 16 },
+};
+
+/// The places of a list that a part is of: the first, and the one after the last. The list decides
+/// which there are.
+pub(crate) const FROM: NumberOption = NumberOption {
+    name: "from",
+    default: 0,
+    numbers: Numbers::Between {
+        least: 0,
+        most: 4_294_967_295,
+    },
+};
+
+pub(crate) const TO: NumberOption = NumberOption {
+    name: "to",
+    default: 0,
+    numbers: Numbers::Between {
+        least: 0,
+        most: 4_294_967_295,
+    },
+};
+
+/// The greatest denominator of the angles of a map.
+pub(crate) const ORDER: NumberOption = NumberOption {
+    name: "order",
+    default: 1,
+    numbers: Numbers::Between {
+        least: 1,
+        most: 128,
+    },
+};
+
+/// The options of a command that runs workers.
+pub(crate) const RUN: [NumberOption; 4] = [ROUNDS, TURNS, WORKERS, SCALE];
+
+/// The options of a command that runs workers with sessions that look on.
+pub(crate) const LOOK: [NumberOption; 6] = [ROUNDS, TURNS, WORKERS, SESSIONS, READS, SCALE];
+
+/// The options of a desk, whose lines say the turns.
+pub(crate) const TALK: [NumberOption; 3] = [ROUNDS, WORKERS, SCALE];
+
+/// The options of a command without turns.
+pub(crate) const STILL: [NumberOption; 2] = [ROUNDS, SCALE];
+
+/// The positional word of an angle.
+pub(crate) const FRACTION: &str = "fraction";
+
+/// The positional words of two angles.
+pub(crate) const FIRST: &str = "first";
+
+pub(crate) const SECOND: &str = "second";
 
 impl Numbers {
     /// The number that a text writes, where it is one of these.

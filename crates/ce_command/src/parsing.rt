@@ -3,19 +3,18 @@ ghost use Rattle.std.specs.Prelude.{◌≡◌, ◌≢◌, IfOk, map, string_byte
 ghost use Rattle.clap.specs.Words.{app_of, kind_of};
 ghost use Rattle.ce_command.specs.Form.{app_with};
 ghost use Rattle.ce_command.specs.Options.{number_given, option_form};
-ghost use Rattle.ce_command.specs.Meaning.{text_in};
+ghost use Rattle.ce_angle.specs.Typed.{angle_of_text};
+ghost use Rattle.ce_command.specs.Meaning.{are_good, number_at, text_in};
 ghost use Rattle.ce_command.specs.Reading.{ReadsBy, given_by};
 ghost use Rattle.ce_command.specs.Table.{app_named};
 
-use crate::command::WordsError;
-use crate::name::CommandName;
-use crate::options::{NumberOption, ROUNDS, SCALE, TURNS};
+use crate::command::CommandName;
+use crate::options::NumberOption;
+use crate::words::WordsError;
+use ce_angle::{Angle, AngleError};
 use clap::error::ErrorKind;
 use clap::{Arg, ArgAction, ArgMatches};
 use std::alloc::{AllocError, Global};
-
-/// The positional word of an angle.
-pub(crate) const FRACTION: &str = "fraction";
 
 // What `clap` is told of a command with these words and options. Each positional word is required,
 // and each option takes one value. None of the flags of `clap` itself is there.
@@ -48,11 +47,8 @@ fn described<'a>(
 fn description<'a>(alloc: Global, name: CommandName) -> Result<clap::Command<'a>, AllocError>
     ensures { IfOk result (λ command. app_of command ≡ app_named name) }
 {
-    match name {
-        CommandName::Angle => described(alloc, "angle", &[FRACTION], &[ROUNDS, TURNS, SCALE]),
-        CommandName::Show => described(alloc, "show", &[FRACTION], &[]),
-        CommandName::Replay => described(alloc, "replay", &[FRACTION], &[ROUNDS, SCALE]),
-    }
+    let row = name.row();
+    described(alloc, row.name, row.positionals, row.options)
 }
 
 // What an error of `clap` comes to.
@@ -82,19 +78,45 @@ pub(crate) fn matched<'a>(
     }
 }
 
-/// The text of a positional word. `clap` reads no words without it.
-pub(crate) fn text_of<'a>(matches: &ArgMatches<'a>, id: &str) -> &'a str
+// The text of a positional word. `clap` reads no words without it.
+fn text_of<'a>(matches: &ArgMatches<'a>, id: &str) -> &'a str
     ensures { result.now ≡ text_in (given_by matches.now) id.now }
 {
     matches.get_str(id).unwrap_or("")
 }
 
-/// The number of an option, where its value is in form and in range.
-pub(crate) fn number_of(matches: &ArgMatches<'_>, option: NumberOption) -> Option<u32>
+// The number of an option, where its value is in form and in range.
+fn number_of(matches: &ArgMatches<'_>, option: NumberOption) -> Option<u32>
     ensures { result ≡ number_given (given_by matches.now) (option_form option) }
 {
     match matches.get_str(option.name) {
         None => Some(option.default),
         Some(text) => option.numbers.read(text),
     }
+}
+
+/// Whether each of these numbers is in form and in range, where it is given.
+pub(crate) fn has_numbers(matches: &ArgMatches<'_>, options: &[NumberOption]) -> bool
+    ensures { result ≡ are_good (given_by matches.now) (map option_form options.now) }
+{
+    for option in options {
+        if number_of(matches, *option).is_none() {
+            return false;
+        }
+    }
+    true
+}
+
+/// The angle of a positional word.
+pub(crate) fn angle_in(matches: &ArgMatches<'_>, id: &str) -> Result<Angle, AngleError>
+    ensures { result ≡ angle_of_text (text_in (given_by matches.now) id.now) }
+{
+    Angle::parse(text_of(matches, id).as_bytes())
+}
+
+/// The number of an option, or its usual one where none is given in form and in range.
+pub(crate) fn number_in(matches: &ArgMatches<'_>, option: NumberOption) -> u32
+    ensures { result ≡ number_at (given_by matches.now) (option_form option) }
+{
+    number_of(matches, option).unwrap_or(option.default)
 }

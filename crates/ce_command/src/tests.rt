@@ -19,11 +19,12 @@ fn words_of(alloc: Global, line: &str) -> Result<Vec<String>, Fail> {
 }
 
 // The command `angle` for 1/4.
-fn quarter(rounds: u32, scale: u32) -> Command {
+fn quarter(rounds: u32, turns: u32, workers: u32, scale: u32) -> Command {
     Command::Angle {
         angle: Angle::new(1, 4),
         rounds,
-        turns: 0,
+        turns,
+        workers,
         scale,
     }
 }
@@ -33,7 +34,8 @@ fn flawed(flaw: AngleError, rounds: u32) -> Command {
     Command::Angle {
         angle: Err(flaw),
         rounds,
-        turns: 0,
+        turns: 400,
+        workers: 2,
         scale: 32,
     }
 }
@@ -41,17 +43,21 @@ fn flawed(flaw: AngleError, rounds: u32) -> Command {
 #[test]
 fn angles_are_read_with_their_options(rt: HostRuntime) -> Result<(), Fail> {
     let table = [
-        ("angle 1/4", quarter(36, 32)),
-        ("angle 2/8", quarter(36, 32)),
-        ("angle 1/4 --rounds 0", quarter(0, 32)),
-        ("angle 1/4 --rounds 36", quarter(36, 32)),
-        ("angle 1/4 --rounds=2 --turns 0", quarter(2, 32)),
-        ("angle --rounds 2 1/4", quarter(2, 32)),
-        ("angle --rounds 2 -- 1/4", quarter(2, 32)),
-        ("angle 1/4 --scale=48", quarter(36, 48)),
-        ("angle 1/4 --scale 32", quarter(36, 32)),
-        ("angle 1/4 --rounds 2 --turns 0 --scale 48", quarter(2, 48)),
-        ("angle 1/4 --scale 48 --rounds 2 --turns 0", quarter(2, 48)),
+        ("angle 1/4", quarter(36, 400, 2, 32)),
+        ("angle 2/8", quarter(36, 400, 2, 32)),
+        ("angle 1/4 --rounds 0", quarter(0, 400, 2, 32)),
+        ("angle 1/4 --rounds=2 --turns 0", quarter(2, 0, 2, 32)),
+        ("angle 1/4 --turns 100000", quarter(36, 100000, 2, 32)),
+        ("angle 1/4 --workers 16", quarter(36, 400, 16, 32)),
+        ("angle 1/4 --workers=1 --turns 3", quarter(36, 3, 1, 32)),
+        ("angle --rounds 2 1/4", quarter(2, 400, 2, 32)),
+        ("angle --rounds 2 -- 1/4", quarter(2, 400, 2, 32)),
+        ("angle 1/4 --scale=48", quarter(36, 400, 2, 48)),
+        ("angle 1/4 --scale 32", quarter(36, 400, 2, 32)),
+        (
+            "angle 1/4 --scale 48 --workers 3 --rounds 2 --turns 0",
+            quarter(2, 0, 3, 48),
+        ),
         ("angle -", flawed(NotAFraction, 36)),
         ("angle -- -1/4", flawed(NotAFraction, 36)),
         ("angle ", flawed(NotAFraction, 36)),
@@ -64,40 +70,109 @@ fn angles_are_read_with_their_options(rt: HostRuntime) -> Result<(), Fail> {
     Ok(())
 }
 
-#[test]
-fn angles_are_shown(rt: HostRuntime) -> Result<(), Fail> {
-    let table = [
-        ("show 1/4", Angle::new(1, 4)),
-        ("show -- 1/4", Angle::new(1, 4)),
-        ("show 5/4", Err(NotBelowOne)),
-        ("show ", Err(NotAFraction)),
-    ];
-    for (line, angle) in table {
-        let words = words_of(rt.alloc(), line)?;
-        assert_eq!(rt;
-            read_words(rt.alloc(), &words),
-            Ok(Command::Show { angle }),
-            "{line}"
-        );
+// The command `degree` by two workers at the scale 2^32.
+fn degree(degree: u32, angle: Result<Angle, AngleError>, rounds: u32, turns: u32) -> Command {
+    Command::Degree {
+        degree,
+        angle,
+        rounds,
+        turns,
+        workers: 2,
+        scale: 32,
     }
-    Ok(())
+}
+
+// The command `show`.
+fn shown(angle: Result<Angle, AngleError>) -> Command {
+    Command::Show { angle }
+}
+
+// The command `replay`.
+fn replay(angle: Result<Angle, AngleError>, rounds: u32, scale: u32) -> Command {
+    Command::Replay {
+        angle,
+        rounds,
+        scale,
+    }
+}
+
+// The command `watch` for 1/4 with the usual options but these.
+fn watch(sessions: u32, reads: u32) -> Command {
+    Command::Watch {
+        angle: Angle::new(1, 4),
+        rounds: 36,
+        turns: 400,
+        workers: 2,
+        sessions,
+        reads,
+        scale: 32,
+    }
 }
 
 #[test]
-fn replays_are_read_with_their_options(rt: HostRuntime) -> Result<(), Fail> {
+fn other_commands_are_read_with_their_numbers(rt: HostRuntime) -> Result<(), Fail> {
+    let probe = Command::Probe {
+        start: 1_000_000_000,
+        count: 10_000,
+        rounds: 36,
+        scale: 48,
+    };
+    let map = Command::Map {
+        order: 128,
+        rounds: 36,
+        turns: 0,
+        workers: 2,
+        scale: 32,
+    };
+    let part = Command::Part {
+        order: 128,
+        from: 0,
+        to: 4_294_967_295,
+        rounds: 36,
+        turns: 0,
+        workers: 2,
+        scale: 32,
+    };
+    let compare = Command::Compare {
+        first: Angle::new(1, 4),
+        second: Err(NotBelowOne),
+        rounds: 0,
+        scale: 32,
+    };
+    let atlas = Command::Atlas {
+        order: 128,
+        rounds: 36,
+        scale: 48,
+    };
     let table = [
-        ("replay 1/4", Angle::new(1, 4), 36, 32),
-        ("replay 1/4 --rounds 0 --scale 48", Angle::new(1, 4), 0, 48),
-        ("replay --scale=48 -- 1/3", Angle::new(1, 3), 36, 48),
-        ("replay 1/0 --rounds 2", Err(ZeroDenominator), 2, 32),
+        ("show 1/4", shown(Angle::new(1, 4))),
+        ("show -- 1/4", shown(Angle::new(1, 4))),
+        ("show ", shown(Err(NotAFraction))),
+        (
+            "replay 1/4 --rounds 0 --scale 48",
+            replay(Angle::new(1, 4), 0, 48),
+        ),
+        ("replay --scale=48 -- 1/4", replay(Angle::new(1, 4), 36, 48)),
+        ("replay 1/0 --rounds 2", replay(Err(ZeroDenominator), 2, 32)),
+        ("degree 3 1/4", degree(3, Angle::new(1, 4), 36, 400)),
+        (
+            "degree 16 --turns 0 1/4 --rounds=2",
+            degree(16, Angle::new(1, 4), 2, 0),
+        ),
+        ("degree 2 5/4", degree(2, Err(NotBelowOne), 36, 400)),
+        ("watch 1/4", watch(1, 10)),
+        ("watch 1/4 --reads 1000 --sessions=8", watch(8, 1000)),
+        ("check", Command::Check),
+        ("upgrade", Command::Upgrade),
+        ("probe 1000000000 10000 --scale 48", probe),
+        ("map 128 --turns=0", map),
+        ("part 128 0 4294967295 --turns 0", part),
+        ("merge", Command::Merge),
+        ("compare 1/4 5/4 --rounds 0", compare),
+        ("atlas 128 --scale 48", atlas),
     ];
-    for (line, angle, rounds, scale) in table {
+    for (line, want) in table {
         let words = words_of(rt.alloc(), line)?;
-        let want = Command::Replay {
-            angle,
-            rounds,
-            scale,
-        };
         assert_eq!(rt; read_words(rt.alloc(), &words), Ok(want), "{line}");
     }
     Ok(())
@@ -126,9 +201,11 @@ fn words_without_a_command_are_usage(rt: HostRuntime) -> Result<(), Fail> {
         "angle 1/4 --rounds",
         "angle 1/4 --round 2",
         "angle 1/4 --scale 40",
-        "angle 1/4 --turns 1",
+        "angle 1/4 --turns 100001",
         "angle 1/4 --turns 0 --turns 0",
-        "angle 1/4 --workers 1",
+        "angle 1/4 --workers 0",
+        "angle 1/4 --workers 17",
+        "show 1/4 --workers 1",
         "angle 1/4 --rounds 00000000002",
         "angle 1/4 --rounds 4294967298",
         "angle 1/4 --rounds=",
@@ -137,6 +214,38 @@ fn words_without_a_command_are_usage(rt: HostRuntime) -> Result<(), Fail> {
         "replay 1/4 --scale 40",
         "replay 1/4 --rounds 37",
         "replay 1/4 --turns 0",
+        "degree 3",
+        "degree 1/4 3",
+        "degree 1 1/4",
+        "degree 17 1/4",
+        "degree 17 5/4",
+        "check x",
+        "upgrade --scale 32",
+        "part 4 0",
+        "part 129 0 1",
+        "part 4 0 4294967296",
+        "merge x",
+        "compare 1/4",
+        "compare 1/4 1/5 --turns 0",
+        "atlas 0",
+        "atlas 3 --turns 0",
+        "probe 1",
+        "probe 1 0",
+        "probe 01 1",
+        "probe 1000000001 1",
+        "probe 1 10001",
+        "map",
+        "map 0",
+        "map 129",
+        "map 04",
+        "map 4 4",
+        "map 2 --sessions 1",
+        "watch",
+        "watch 1/4 1/5",
+        "watch 1/4 --reads 0",
+        "watch 1/4 --reads 1001",
+        "watch 1/4 --sessions 0",
+        "watch 1/4 --sessions 9",
     ];
     for line in table {
         let words = words_of(rt.alloc(), line)?;

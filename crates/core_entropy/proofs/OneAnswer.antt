@@ -1,100 +1,124 @@
--- Words have one answer.
-use Rattle.std.proofs.Common.{◌≡◌, ◌∙◌, ◌++◌, ℕ, List, Ok, Err, length, sym, ap, subst, arith}
+-- The texts of `merge`, `atlas` and `compare` are determined.
+use Rattle.std.proofs.Common.{◌≡◌, ◌<◌, ◌≤◌, ◌⊎◌, ◌∙◌, inl, inr, ℕ, List, refl, sym, ap, ap₂, subst, arith}
 use Rattle.ce_angle.specs.Fraction.{Fraction}
-use Rattle.ce_cert.specs.Quotients.{low_of, high_of}
-use Rattle.ce_command.specs.declared.command.Command.{Command}
-use Rattle.ce_command.specs.declared.command.Command.TheVariants.{Angle, Show, Replay}
-use Rattle.ce_comp.proofs.Unique.{numbering_unique}
-use Rattle.ce_core.specs.Script.{IsScriptOf}
-use Rattle.ce_core.proofs.Scripts.{one_list}
-use Rattle.ce_orbit.specs.Orbit.{ForwardOrbit}
-use Rattle.ce_orbit.proofs.Unique.{one_orbit}
-use Rattle.ce_rows.specs.Events.{Shared}
-use Rattle.ce_rows.specs.Rows.{ScaledRows}
-use Rattle.ce_rows.specs.declared.event.Event.{Event}
+use Rattle.ce_atlas.specs.Atlas.{IsAtlas}
+use Rattle.ce_atlas.specs.Table.{table_text}
+use Rattle.ce_atlas.specs.declared.relation.Relation.{Relation}
+use Rattle.ce_atlas.specs.declared.relation.Relation.TheVariants.{Equal, Below, Above, Open}
+use Rattle.ce_atlas.specs.declared.row.ClassRow.{ClassRow}
+use Rattle.ce_atlas.proofs.Certified.{same_rows}
+use Rattle.ce_merge.specs.Merges.{HasFirstFlaw, HasGoodParts, IsMergeOf}
+use Rattle.ce_merge.proofs.MergedText.{one_text}
+use Rattle.ce_merge.proofs.OneAnswer.{one_first_flaw}
 use Rattle.ce_rows.specs.declared.interval.Interval.{Interval}
-use Rattle.ce_thurston.specs.Indices.{rows_of_orbit}
-use Rattle.ce_vector.specs.PowerIteration.{power_vector}
-use Rattle.core_entropy.specs.AngleLine.{IsAngleLine, line_of}
-use Rattle.core_entropy.specs.Answer.{IsTextOf, IsAnswer}
-use Rattle.core_entropy.specs.Floor.{rows_at, IsInitialEnclosure}
-use Rattle.core_entropy.specs.Replay.{IsReplayText, replayed, entries_line}
-use Rattle.core_entropy.specs.Show.{IsShowText, show_text}
-use Rattle.core_entropy.proofs.Causes.{one_command}
+use Rattle.ce_rows.specs.declared.row.Row.{Row}
+use Rattle.ce_solve.specs.declared.settings.Settings.{Settings}
+use Rattle.ce_sweep.specs.Classes.{HaveSameKneading}
+use Rattle.ce_thurston.specs.Indices.{rows_at}
+use Rattle.core_entropy.specs.Atlas.{IsAtlasText, still}
+use Rattle.core_entropy.specs.Compare.{AreAlike, IsCompareText, IsRelation, compare_line}
+use Rattle.core_entropy.specs.InitialEnclosure.{IsInitialEnclosure}
+use Rattle.core_entropy.specs.Merge.{IsFlawText, flaw_line}
+use Rattle.core_entropy.specs.Probe.{IsInitialOf}
+use Rattle.core_entropy.proofs.MergeTask.{never_both}
+use Rattle.core_entropy.proofs.OneText.{one_enclosure}
+use Rattle.core_entropy.proofs.ProbeTask.{one_initial, one_to_two}
 
-same_interval : (i j : Interval) → i.low ≡ j.low → i.high ≡ j.high → i ≡ j
-same_interval i j low high =
-    let with_low : ℕ → Interval = λ n. record { low = n; high = i.high } in
-    let with_high : ℕ → Interval = λ n. record { low = j.low; high = n } in
-    ap with_low low ∙ ap with_high high
+-- Bytes are merged to one text, or have one first flaw.
+merged_or_flawed : (bytes text other : List ℕ) → IsMergeOf bytes text → IsFlawText bytes other → ⊥
+merged_or_flawed bytes text other m flaw =
+    let good : HasGoodParts bytes = record { header = m.header; parts = m.parts; good = m.good } in
+    let first : HasFirstFlaw bytes = record { line = flaw.line; cause = flaw.cause; is = flaw.first } in
+    never_both bytes good first
 
-pub one_enclosure : (rows : ScaledRows) (rounds : ℕ) (i j : Interval) → IsInitialEnclosure rows rounds i → IsInitialEnclosure rows rounds j → i ≡ j
-one_enclosure rows rounds i j h k =
-    let ranks = numbering_unique rows.list h.are_rows.rows h.ranks k.ranks h.numbering k.numbering in
-    let low = ap (λ r. low_of rows r (power_vector rows.list r rounds)) ranks in
-    let high = ap (λ r. high_of rows r (power_vector rows.list r rounds)) ranks in
-    same_interval i j (h.low ∙ low ∙ sym k.low) (h.high ∙ high ∙ sym k.high)
+pub one_merge : (bytes text other : List ℕ) → IsMergeOf bytes text ⊎ IsFlawText bytes text
+    → IsMergeOf bytes other ⊎ IsFlawText bytes other → text ≡ other
+one_merge bytes text other (inl m) (inl n) = one_text bytes text other m n
+one_merge bytes text other (inl m) (inr flaw) = absurd (merged_or_flawed bytes text other m flaw)
+one_merge bytes text other (inr flaw) (inl m) = absurd (merged_or_flawed bytes other text m flaw)
+one_merge bytes text other (inr first) (inr second) =
+    let same =
+    one_first_flaw bytes first.line second.line first.cause second.cause first.first second.first in
+    first.spelled ∙ ap₂ flaw_line same.0 same.1 ∙ sym second.spelled
 
-one_line : (angle : Fraction) (rounds exponent : ℕ) (line other : List ℕ) → IsAngleLine angle rounds exponent line → IsAngleLine angle rounds exponent other → line ≡ other
-one_line angle rounds exponent line other h k =
-    let orbit = one_orbit h.orbit k.orbit h.is_orbit k.is_orbit (h.of_angle ∙ sym k.of_angle) in
-    let ends = subst (λ o. IsInitialEnclosure (rows_at o exponent) rounds k.interval) (sym orbit) k.ends in
-    let interval = one_enclosure (rows_at h.orbit exponent) rounds h.interval k.interval h.ends ends in
-    h.spelled ∙ ap (λ i. line_of angle exponent i) interval ∙ sym k.spelled
+-- With no turns an order has one table.
+abbrev pub AreDetermined : Type 0
+AreDetermined =
+    (settings : Settings) (order : ℕ) (rows others : List ClassRow) → settings.turns ≡ 0
+    → IsAtlas settings order rows → IsAtlas settings order others → table_text rows ≡ table_text others
 
-one_show : (angle : Fraction) (text other : List ℕ) → IsShowText angle text → IsShowText angle other → text ≡ other
-one_show angle text other h k =
-    let orbit = one_orbit h.orbit k.orbit h.is_orbit k.is_orbit (h.of_angle ∙ sym k.of_angle) in
-    h.spelled ∙ ap (λ o. show_text o) orbit ∙ sym k.spelled
+pub one_table : AreDetermined → (order rounds exponent : ℕ) (text other : List ℕ)
+    → IsAtlasText order rounds exponent text → IsAtlasText order rounds exponent other → text ≡ other
+one_table one order rounds exponent text other h k =
+    h.spelled ∙ one (still rounds exponent) order h.rows k.rows refl h.atlas k.atlas ∙ sym k.spelled
 
--- A text is that of a replayed script for an orbit.
-record IsReplayAt (o : ForwardOrbit) (angle : Fraction) (rounds exponent : ℕ) (script text : List ℕ) : Type 0 where
-  floor : Interval
-  ends : IsInitialEnclosure (rows_at o exponent) rounds floor
-  events : List Event
-  read : IsScriptOf (length (rows_of_orbit o)) script events
-  interval : Interval
-  low : interval.low ≡ (replayed (rows_at o exponent) ends.ranks rounds floor events).low
-  high : interval.high ≡ (replayed (rows_at o exponent) ends.ranks rounds floor events).high
-  spelled : text ≡ entries_line (replayed (rows_at o exponent) ends.ranks rounds floor events).entries ++ line_of angle exponent interval
+-- Two angles with their initial enclosures stand to each other in one way.
+module _ (a b : Fraction) (rounds exponent : ℕ) (few : rounds ≤ 36) (i j : Interval)
+    (x : IsInitialOf rounds exponent a i) (y : IsInitialOf rounds exponent b j) where
+  first_ordered : i.low ≤ i.high
+  first_ordered = (one_to_two (rows_at x.orbit exponent) rounds i few x.initial).ordered
 
-at_orbit : (angle : Fraction) (rounds exponent : ℕ) (script text : List ℕ) → (h : IsReplayText angle rounds exponent script text) → IsReplayAt h.orbit angle rounds exponent script text
-at_orbit angle rounds exponent script text h = record {
-  floor = h.floor;
-  ends = h.ends;
-  events = h.events;
-  read = h.read;
-  interval = h.interval;
-  low = h.low;
-  high = h.high;
-  spelled = h.spelled;
-}
+  second_ordered : j.low ≤ j.high
+  second_ordered = (one_to_two (rows_at y.orbit exponent) rounds j few y.initial).ordered
 
-two_at : (o : ForwardOrbit) (angle : Fraction) (rounds exponent : ℕ) (script text other : List ℕ) → IsReplayAt o angle rounds exponent script text → IsReplayAt o angle rounds exponent script other → text ≡ other
-two_at o angle rounds exponent script text other a b =
-    let rows = rows_at o exponent in
-    let few = a.ends.are_rows.rows.few in
-    let floors = one_enclosure rows rounds a.floor b.floor a.ends b.ends in
-    let ranks = numbering_unique rows.list a.ends.are_rows.rows a.ends.ranks b.ends.ranks a.ends.numbering b.ends.numbering in
-    let events = one_list (length (rows_of_orbit o)) (omega arith) script a.events b.events a.read b.read in
-    let shared = ap (λ r. replayed rows r rounds a.floor a.events) ranks ∙ ap (λ f. replayed rows b.ends.ranks rounds f a.events) floors ∙ ap (λ es. replayed rows b.ends.ranks rounds b.floor es) events in
-    let interval = same_interval a.interval b.interval (a.low ∙ ap (λ (s : Shared). s.low) shared ∙ sym b.low) (a.high ∙ ap (λ (s : Shared). s.high) shared ∙ sym b.high) in
-    a.spelled ∙ ap (λ (s : Shared). entries_line s.entries ++ line_of angle exponent a.interval) shared ∙ ap (λ i. entries_line (replayed rows b.ends.ranks rounds b.floor b.events).entries ++ line_of angle exponent i) interval ∙ sym b.spelled
+  -- With one kneading sequence they have one transition matrix, and so one initial enclosure.
+  same_initial : HaveSameKneading a b → i ≡ j
+  same_initial alike =
+      let first = subst (λ f. HaveSameKneading f b) (sym x.of_angle) alike in
+      let both = subst (λ f. HaveSameKneading x.orbit.angle f) (sym y.of_angle) first in
+      let rows = same_rows x.orbit y.orbit x.is_orbit y.is_orbit both in
+      let Initial : List Row → Type 0 =
+      λ list. IsInitialEnclosure (record { list = list; exponent = exponent }) rounds j in
+      one_enclosure (rows_at x.orbit exponent) rounds i j x.initial (subst Initial (sym rows) y.initial)
 
-one_replay : (angle : Fraction) (rounds exponent : ℕ) (script text other : List ℕ) → IsReplayText angle rounds exponent script text → IsReplayText angle rounds exponent script other → text ≡ other
-one_replay angle rounds exponent script text other h k =
-    let orbit = one_orbit h.orbit k.orbit h.is_orbit k.is_orbit (h.of_angle ∙ sym k.of_angle) in
-    two_at h.orbit angle rounds exponent script text other (at_orbit angle rounds exponent script text h) (subst (λ o. IsReplayAt o angle rounds exponent script other) (sym orbit) (at_orbit angle rounds exponent script other k))
+  meet : AreAlike a b i j → (j.low ≤ i.high) × (i.low ≤ j.high)
+  meet (inl alike) =
+      let same = same_initial alike in (
+        subst (λ (k : Interval). k.low ≤ i.high) same first_ordered,
+        subst (λ (k : Interval). i.low ≤ k.high) same first_ordered,
+      )
+  meet (inr number) =
+      let one = number.first in
+      let two = number.second in
+      let same = number.same in
+      (omega (arith, one, two, same), omega (arith, one, two, same))
 
-one_text : (c : Command) (input text other : List ℕ) → IsTextOf c input text → IsTextOf c input other → text ≡ other
-one_text (Angle (Ok angle) rounds turns scale) input text other h k = one_line angle rounds scale text other h k
-one_text (Angle (Err flaw) rounds turns scale) input text other h k = absurd h
-one_text (Show (Ok angle)) input text other h k = one_show angle text other h k
-one_text (Show (Err flaw)) input text other h k = absurd h
-one_text (Replay (Ok angle) rounds scale) input text other h k = one_replay angle rounds scale input text other h k
-one_text (Replay (Err flaw) rounds scale) input text other h k = absurd h
+  alike_below : AreAlike a b i j → i.high < j.low → ⊥
+  alike_below alike less = omega (arith, (meet alike).0, less)
 
-pub one_answer : (words : List (List ℕ)) (input text other : List ℕ) → IsAnswer words input text → IsAnswer words input other → text ≡ other
-one_answer words input text other h k =
-    let commands = one_command words h.command k.command h.means k.means in
-    one_text h.command input text other h.text (subst (λ c. IsTextOf c input other) (sym commands) k.text)
+  alike_above : AreAlike a b i j → j.high < i.low → ⊥
+  alike_above alike less = omega (arith, (meet alike).1, less)
+
+  below_above : i.high < j.low → j.high < i.low → ⊥
+  below_above less more = omega (arith, first_ordered, second_ordered, less, more)
+
+  one_relation : (r s : Relation) → IsRelation a b i j r → IsRelation a b i j s → r ≡ s
+  one_relation Equal Equal h k = refl
+  one_relation Equal Below h k = absurd (alike_below h k)
+  one_relation Equal Above h k = absurd (alike_above h k)
+  one_relation Equal Open h k = absurd (k.0 h)
+  one_relation Below Equal h k = absurd (alike_below k h)
+  one_relation Below Below h k = refl
+  one_relation Below Above h k = absurd (below_above h k)
+  one_relation Below Open h k = absurd (k.1.0 h)
+  one_relation Above Equal h k = absurd (alike_above k h)
+  one_relation Above Below h k = absurd (below_above k h)
+  one_relation Above Above h k = refl
+  one_relation Above Open h k = absurd (k.1.1 h)
+  one_relation Open Equal h k = absurd (h.0 k)
+  one_relation Open Below h k = absurd (h.1.0 k)
+  one_relation Open Above h k = absurd (h.1.1 k)
+  one_relation Open Open h k = refl
+
+pub one_comparison : (a b : Fraction) (rounds exponent : ℕ) (text other : List ℕ) → rounds ≤ 36
+    → IsCompareText a b rounds exponent text → IsCompareText a b rounds exponent other → text ≡ other
+one_comparison a b rounds exponent text other few h k =
+    let x = h.compared in
+    let y = k.compared in
+    let first = one_initial rounds exponent a y.first x.first y.first_is x.first_is in
+    let second = one_initial rounds exponent b y.second x.second y.second_is x.second_is in
+    let at_first = subst (λ i. IsRelation a b i y.second k.relation) first y.is in
+    let at_both = subst (λ j. IsRelation a b x.first j k.relation) second at_first in
+    let same = one_relation a b rounds exponent few x.first x.second x.first_is x.second_is h.relation k.relation
+    x.is at_both in
+    h.spelled ∙ ap (compare_line a b) same ∙ sym k.spelled

@@ -1,98 +1,282 @@
--- What an end of a command says of its words and its input.
-use Rattle.std.proofs.Common.{◌≡◌, ◌≤◌, ◌+◌, ℕ, List, [], Option, Some, None, Ok, Err, length, refl, arith, length-append}
+-- What an end of a task says of what was written, and of what is called for.
+use Rattle.std.proofs.Common.{◌≡◌, ◌≤◌, ◌+◌, ◌⊎◌, inl, inr, ℕ, List, [], Option, None, Some, refl, sym, subst, arith}
+use Rattle.std.proofs.Common.{length-append}
+use Rattle.std.specs.Prelude.{Result, Ok, Err}
+use Rattle.std.specs.Result.{IsErrAnd}
+use Rattle.std.specs.Io.KnownBytes.{Consumes}
 use Rattle.ce_command.specs.Meaning.{command_of}
 use Rattle.ce_command.specs.declared.command.Command.{Command}
-use Rattle.ce_command.specs.declared.command.Command.TheVariants.{Angle, Show, Replay}
+use Rattle.ce_command.specs.declared.words.WordsError.{WordsError}
+use Rattle.ce_command.specs.declared.words.WordsError.TheVariants as words
 use Rattle.ce_port.specs.ReadAll.{Gave}
-use Rattle.ce_port.specs.Sink.{GrewBy}
+use Rattle.ce_port.specs.Sink.{GrewBy, Rose}
 use Rattle.ce_port.specs.WriteAll.{GrewByPrefix}
-use Rattle.core_entropy.specs.Answer.{IsTextOf}
-use Rattle.core_entropy.specs.Causes.{input_limit, HasFittingInput, HasBadInput, HasText, CallsWith, IsCalledFor, IsInputOf}
+use Rattle.ce_port.proofs.Paging.{GrewBy-none, whole-prefix}
+use Rattle.core_entropy.specs.Calls.{CallsFor, IsAbove, IsInput, IsToldInput}
 use Rattle.core_entropy.specs.Input.{IsReadStatus}
-use Rattle.core_entropy.specs.NoText.{HasNoTextFor}
-use Rattle.core_entropy.specs.Output.{WroteAnswer, WrotePart}
-use Rattle.core_entropy.specs.Words.{IsToRead, AsksNothing}
+use Rattle.core_entropy.specs.Headline.{Headline}
+use Rattle.core_entropy.specs.Output.{GrewByPart, HasEnded, HasEndedOn, HasRead, Wrote}
+use Rattle.core_entropy.specs.Status.{IsCalledFor, IsRefusal, IsUnheard, IsUnlessNoMemory, ended_with, of_words}
+use Rattle.core_entropy.specs.Table.{task_asked, task_if, task_of}
+use Rattle.core_entropy.specs.Task.{Task}
 use Rattle.core_entropy.specs.declared.status.Status.{Status}
-use Rattle.core_entropy.specs.declared.status.Status.TheVariants as status
+use Rattle.core_entropy.specs.declared.status.Status.TheVariants.{Done, Refused, Usage, Angle, OrbitTooLong, BadEvent}
+use Rattle.core_entropy.specs.declared.status.Status.TheVariants.{InputTooLong, ReadFault, WriteFault, NoMemory}
+use Rattle.core_entropy.proofs.Ended.{ended_is}
+use Rattle.core_entropy.proofs.Stages.{IsLawful, calls_one, told_is_read}
 
--- what a source has left, where it tells that
-some_input : Option (List ℕ) → List ℕ
-some_input None = []
-some_input (Some bytes) = bytes
+-- A status is called for, or it is one of three.
+data Kind (s : Status) : Type 0 where
+  called : IsCalledFor s → Kind s
+  unread : s ≡ ReadFault → Kind s
+  unwritten : s ≡ WriteFault → Kind s
+  no_memory : s ≡ NoMemory → Kind s
 
-some_is : (left : Option (List ℕ)) → IsInputOf left (some_input left)
-unfolding some_input
-some_is None = tt
-some_is (Some bytes) = refl
+kind : (s : Status) → Kind s
+kind ReadFault = unread refl
+kind WriteFault = unwritten refl
+kind NoMemory = no_memory refl
+kind Done = called tt
+kind Refused = called tt
+kind Usage = called tt
+kind (Angle flaw) = called tt
+kind OrbitTooLong = called tt
+kind (BadEvent line) = called tt
+kind InputTooLong = called tt
 
--- The input of a command: what was read, or where it reads nothing, what the source has left.
-record IsChosen (left : Option (List ℕ)) (c : Command) (read : List ℕ) : Type 0 where
-  input : List ℕ
-  is : IsInputOf left input
-  fits : HasFittingInput c input
-  text : HasText c read → HasText c input
-  answer : (t : List ℕ) → IsTextOf c read t → IsTextOf c input t
-  bad : (line : ℕ) → HasBadInput c read line → HasBadInput c input line
+module _ {O : Type 0} (taken : O → Option (List ℕ)) (faults : O → ℕ) (IsText : List ℕ → Type 0) (old now : O) where
+  unchanged : now ≡ old → GrewBy (taken old) (taken now) []
+  unchanged same = subst (λ o. GrewBy (taken old) (taken o) []) (sym same) (GrewBy-none (taken old))
 
-chosen : (left : Option (List ℕ)) (c : Command) (read : List ℕ) → (IsToRead c → IsInputOf left read) → (IsToRead c → length read ≤ input_limit) → IsChosen left c read
-chosen left (Angle (Ok angle) rounds turns scale) read is fits = record { input = some_input left; is = some_is left; fits = λ none. absurd none; text = λ h. h; answer = λ t h. h; bad = λ line h. h }
-chosen left (Angle (Err flaw) rounds turns scale) read is fits = record { input = some_input left; is = some_is left; fits = λ none. absurd none; text = λ h. h; answer = λ t h. h; bad = λ line h. h }
-chosen left (Show (Ok angle)) read is fits = record { input = some_input left; is = some_is left; fits = λ none. absurd none; text = λ h. h; answer = λ t h. h; bad = λ line h. h }
-chosen left (Show (Err flaw)) read is fits = record { input = some_input left; is = some_is left; fits = λ none. absurd none; text = λ h. h; answer = λ t h. h; bad = λ line h. h }
-chosen left (Replay (Ok angle) rounds scale) read is fits = record { input = read; is = is tt; fits = fits; text = λ h. h; answer = λ t h. h; bad = λ line h. h }
-chosen left (Replay (Err flaw) rounds scale) read is fits = record { input = some_input left; is = some_is left; fits = λ none. absurd none; text = λ h. h; answer = λ t h. h; bad = λ line h. h }
+  written : (s : Status) → Wrote taken faults IsText s old now
+      → GrewBy (taken old) (taken now) [] ⊎ GrewByPart IsText (taken old) (taken now)
+  written Done (text, is, grew) = inr (text, is, whole-prefix (taken old) (taken now) text grew)
+  written Refused (text, is, grew) = inr (text, is, whole-prefix (taken old) (taken now) text grew)
+  written WriteFault (part, rose) = inr part
+  written NoMemory (inl same) = inl (unchanged same)
+  written NoMemory (inr part) = inr part
+  written Usage same = inl (unchanged same)
+  written (Angle flaw) same = inl (unchanged same)
+  written OrbitTooLong same = inl (unchanged same)
+  written (BadEvent line) same = inl (unchanged same)
+  written InputTooLong same = inl (unchanged same)
+  written ReadFault same = inl (unchanged same)
 
-module _ (words : List (List ℕ)) (left : Option (List ℕ)) where
-  pub nothing_called : AsksNothing words → CallsWith words left status.Usage
-  nothing_called h = (some_input left, some_is left, h)
+  refused_same : (s : Status) → IsRefusal s → Wrote taken faults IsText s old now → now ≡ old
+  refused_same Done refusal wrote = absurd refusal
+  refused_same Refused refusal wrote = absurd refusal
+  refused_same WriteFault refusal wrote = absurd refusal
+  refused_same NoMemory refusal wrote = absurd refusal
+  refused_same Usage refusal same = same
+  refused_same (Angle flaw) refusal same = same
+  refused_same OrbitTooLong refusal same = same
+  refused_same (BadEvent line) refusal same = same
+  refused_same InputTooLong refusal same = same
+  refused_same ReadFault refusal same = same
 
-  module _ (c : Command) (means : command_of words ≡ Some c) where
-    much : (now : Option (List ℕ)) → IsToRead c → Gave (input_limit + 1) left now → CallsWith words left status.InputTooLong
-    much now reads gave = long left now gave
+read_rose : {S : Type 0} (left : S → Option (List ℕ)) (faults : S → ℕ) (limit : Option ℕ) (old now : S)
+    → HasRead left faults limit ReadFault old now → Rose (faults old) (faults now)
+read_rose left faults None old now h = absurd h
+read_rose left faults (Some limit) old now h = h.1
+
+module _ {O : Type 0} (taken : O → Option (List ℕ)) (faults : O → ℕ) (task : Task) (left : Option (List ℕ)) (s : Status)
+    (old now : O) (ended : HasEndedOn taken faults task left s old now) where
+  pub refused : IsRefusal s → now ≡ old
+  refused refusal = refused_same taken faults (task.Writes ended.input) old now s refusal ended.wrote
+
+  module _ (lawful : IsLawful task) where
+    pub headline : Headline task left (taken old) (taken now)
+    headline = elim (written taken faults (task.Writes ended.input) old now s ended.wrote) [
+      | inl none ↦ inl none
+      | inr (text, writes, part) ↦ inr (ended.input, text, ended.is_input, lawful.true ended.input text writes, part)
+    ]
+
+    pub complete : {S : Type 0} (left_of : S → Option (List ℕ)) (read_faults : S → ℕ) (before after : S)
+        → HasRead left_of read_faults task.limit s before after → (input : List ℕ) (t : Status)
+        → IsToldInput task.limit left input → CallsFor task input t → ¬ (Rose (read_faults before) (read_faults after))
+        → ¬ (Rose (faults old) (faults now)) → IsUnlessNoMemory s t
+    complete left_of read_faults before after read input t told calls none_read none_wrote = go (kind s)
       where
-        long : (l n : Option (List ℕ)) → Gave (input_limit + 1) l n → CallsWith words l status.InputTooLong
-        long None n (bytes, count, consumed) = (bytes, tt, record { command = c; means = means; reads = reads; long = omega arith })
-        long (Some all) None (bytes, count, consumed) = absurd consumed
-        long (Some all) (Some rest) (bytes, count, consumed) = (all, refl, record { command = c; means = means; reads = reads; long = rw consumed (omega (arith, length-append bytes rest)) })
+        go : Kind s → IsUnlessNoMemory s t
+        go (called is) =
+            let same = told_is_read task.limit left ended.input input ended.is_input told in
+            inl (calls_one task lawful input s t (subst (λ i. CallsFor task i s) same (ended.called is)) calls)
+        go (unread is) =
+            absurd (none_read
+            (read_rose left_of read_faults task.limit before after
+            (subst (λ k. HasRead left_of read_faults task.limit k before after) is read)))
+        go (unwritten is) =
+            absurd (none_wrote (subst (λ k. Wrote taken faults (task.Writes ended.input) k old now) is ended.wrote).1)
+        go (no_memory is) = inr is
 
-    pub reading_called : (now : Option (List ℕ)) (s : Status) → IsToRead c → IsReadStatus s → (s ≡ status.InputTooLong → Gave (input_limit + 1) left now) → IsCalledFor s → CallsWith words left s
-    reading_called now status.InputTooLong reads none gave called = much now reads (gave refl)
-    reading_called now status.ReadFault reads none gave called = absurd called
-    reading_called now status.WriteFault reads none gave called = absurd called
-    reading_called now status.NoMemory reads none gave called = absurd called
-    reading_called now status.Done reads none gave called = absurd none
-    reading_called now status.Usage reads none gave called = absurd none
-    reading_called now (status.Angle flaw) reads none gave called = absurd none
-    reading_called now status.OrbitTooLong reads none gave called = absurd none
-    reading_called now (status.BadEvent line) reads none gave called = absurd none
+-- some input of a source
+some_input : (limit : Option ℕ) (left : Option (List ℕ)) → (input : List ℕ) × IsInput limit left input
+some_input None left = ([], refl)
+some_input (Some limit) None = ([], tt)
+some_input (Some limit) (Some bytes) = (bytes, refl)
 
-    module _ (read : List ℕ) (is : IsToRead c → IsInputOf left read) (fits : IsToRead c → length read ≤ input_limit) where
-      pub text_refused : (s : Status) → HasNoTextFor c read s → IsCalledFor s → CallsWith words left s
-      text_refused status.InputTooLong none called = absurd none
-      text_refused status.ReadFault none called = absurd called
-      text_refused status.WriteFault none called = absurd called
-      text_refused status.NoMemory none called = absurd called
-      text_refused status.Done none called = absurd none
-      text_refused status.Usage none called = absurd none
-      text_refused (status.Angle flaw) none called = (some_input left, some_is left, record { command = c; means = means; flawed = none })
-      text_refused status.OrbitTooLong none called =
-          let i = chosen left c read is fits in
-          (i.input, i.is, record { command = c; means = means; fits = i.fits; long = none })
-      text_refused (status.BadEvent line) none called =
-          let i = chosen left c read is fits in
-          (i.input, i.is, record { command = c; means = means; fits = i.fits; bad = i.bad line none })
+Consumes-none : (left : Option (List ℕ)) → Consumes left left []
+Consumes-none None = tt
+Consumes-none (Some bytes) = refl
 
-      pub text_called : HasText c read → CallsWith words left status.Done
-      text_called some =
-          let i = chosen left c read is fits in
-          (i.input, i.is, record { command = c; means = means; fits = i.fits; text = i.text some })
+module _ (list : List (List ℕ)) where
+  module _ {O : Type 0} (taken : O → Option (List ℕ)) (faults : O → ℕ) (left : Option (List ℕ)) (old : O) where
+    -- words that are no command, and words for which memory is refused
+    pub words_ended : (e : WordsError) → (e ≡ words.Usage → command_of list ≡ None)
+        → HasEndedOn taken faults (task_asked list) left (of_words e) old old
+    words_ended words.Usage none =
+        subst (λ o. HasEndedOn taken faults (task_if o) left Usage old old) (sym (none refl))
+        (record { input = []; is_input = refl; called = λ called. inr (λ above. above, refl); wrote = refl })
+    words_ended words.NoMemory none =
+        let input = some_input (task_asked list).limit left in
+        record { input = input.0; is_input = input.1; called = λ called. absurd called; wrote = inl refl }
 
-      pub wrote_answer : (text : List ℕ) (old now : Option (List ℕ)) → IsTextOf c read text → GrewBy old now text → WroteAnswer words left old now
-      wrote_answer text old now answers grew =
-          let i = chosen left c read is fits in
-          (i.input, text, i.is, record { command = c; means = means; text = i.answer text answers }, grew)
+    pub command_ended : (now : O) (command : Command) (s : Status) → command_of list ≡ Some command
+        → HasEndedOn taken faults (task_of command) left s old now
+        → HasEndedOn taken faults (task_asked list) left s old now
+    command_ended now command s means = subst (λ o. HasEndedOn taken faults (task_if o) left s old now) (sym means)
 
-      pub wrote_part : (text : List ℕ) (old now : Option (List ℕ)) → IsTextOf c read text → GrewByPrefix old now text → WrotePart words left old now
-      wrote_part text old now answers grew =
-          let i = chosen left c read is fits in
-          (i.input, text, i.is, record { command = c; means = means; text = i.answer text answers }, grew)
+  module _ {S : Type 0} (left : S → Option (List ℕ)) (faults : S → ℕ) (old : S) where
+    no_memory_read : (limit : Option ℕ) → HasRead left faults limit NoMemory old old
+    no_memory_read None = refl
+    no_memory_read (Some limit) = (0, omega arith, ([], refl, Consumes-none (left old)))
+
+    pub words_read : (e : WordsError) → (e ≡ words.Usage → command_of list ≡ None)
+        → HasRead left faults (task_asked list).limit (of_words e) old old
+    words_read words.Usage none =
+        subst (λ o. HasRead left faults (task_if o).limit Usage old old) (sym (none refl)) refl
+    words_read words.NoMemory none = no_memory_read (task_asked list).limit
+
+    pub command_read : (now : S) (command : Command) (s : Status) → command_of list ≡ Some command
+        → HasRead left faults (task_of command).limit s old now → HasRead left faults (task_asked list).limit s old now
+    command_read now command s means = subst (λ o. HasRead left faults (task_if o).limit s old now) (sym means)
+
+-- a task that reads nothing
+module _ {O : Type 0} (taken : O → Option (List ℕ)) (faults : O → ℕ) (task : Task) (left : Option (List ℕ))
+    (s : Status) (old now : O) where
+  pub ended_unread : task.limit ≡ None → HasEnded taken faults task [] s old now
+      → HasEndedOn taken faults task left s old now
+  ended_unread none h =
+      record {
+        input = [];
+        is_input = subst (λ l. IsInput l left []) (sym none) refl;
+        called = h.called;
+        wrote = h.wrote;
+      }
+
+  pub ended_read : (limit : ℕ) (input : List ℕ) → task.limit ≡ Some limit → IsInput (Some limit) left input
+      → HasEnded taken faults task input s old now → HasEndedOn taken faults task left s old now
+  ended_read limit input is read h =
+      record {
+        input = input;
+        is_input = subst (λ l. IsInput l left input) (sym is) read;
+        called = h.called;
+        wrote = h.wrote;
+      }
+
+module _ {S : Type 0} (left : S → Option (List ℕ)) (faults : S → ℕ) where
+  pub none_read : (old : S) (s : Status) → ¬ (IsUnheard s) → HasRead left faults None s old old
+  none_read old ReadFault heard = absurd (heard tt)
+  none_read old InputTooLong heard = refl
+  none_read old WriteFault heard = refl
+  none_read old NoMemory heard = refl
+  none_read old Done heard = refl
+  none_read old Refused heard = refl
+  none_read old Usage heard = refl
+  none_read old (Angle flaw) heard = refl
+  none_read old OrbitTooLong heard = refl
+  none_read old (BadEvent line) heard = refl
+
+  pub whole_read : (limit : ℕ) (old now : S) (s : Status) → ¬ (IsUnheard s)
+      → HasRead left faults (Some limit) Done old now → HasRead left faults (Some limit) s old now
+  whole_read limit old now ReadFault heard h = absurd (heard tt)
+  whole_read limit old now InputTooLong heard h = absurd (heard tt)
+  whole_read limit old now NoMemory heard h = h.0
+  whole_read limit old now WriteFault heard h = h
+  whole_read limit old now Done heard h = h
+  whole_read limit old now Refused heard h = h
+  whole_read limit old now Usage heard h = h
+  whole_read limit old now (Angle flaw) heard h = h
+  whole_read limit old now OrbitTooLong heard h = h
+  whole_read limit old now (BadEvent line) heard h = h
+
+  module _ {O : Type 0} (taken : O → Option (List ℕ)) (out_faults : O → ℕ) (task : Task) (limit : ℕ)
+      (is : task.limit ≡ Some limit) (out : O) where
+    too_much : (before now : Option (List ℕ)) → Gave (limit + 1) before now
+        → HasEndedOn taken out_faults task before InputTooLong out out
+    too_much None now (bytes, count, consumed) = record {
+      input = bytes;
+      is_input = subst (λ l. IsInput l None bytes) (sym is) tt;
+      called = λ called. inl (subst (λ l. IsAbove l bytes) (sym is) (omega (arith, count)), refl);
+      wrote = refl;
+    }
+    too_much (Some all) None (bytes, count, consumed) = absurd consumed
+    too_much (Some all) (Some rest) (bytes, count, consumed) = record {
+      input = all;
+      is_input = subst (λ l. IsInput l (Some all) all) (sym is) refl;
+      called = λ called.
+          inl (
+            subst (λ l. IsAbove l all) (sym is) (rw consumed (omega (arith, count, length-append bytes rest))),
+            refl,
+          );
+      wrote = refl;
+    }
+
+    -- a task whose input was not read
+    pub unread_ended : (old now : S) (s : Status) → IsReadStatus s → HasRead left faults (Some limit) s old now
+        → HasEndedOn taken out_faults task (left old) s out out
+    unread_ended old now InputTooLong kind read = too_much (left old) (left now) read
+    unread_ended old now ReadFault kind read =
+        let input = some_input task.limit (left old) in
+        record { input = input.0; is_input = input.1; called = λ called. absurd called; wrote = refl }
+    unread_ended old now NoMemory kind read =
+        let input = some_input task.limit (left old) in
+        record { input = input.0; is_input = input.1; called = λ called. absurd called; wrote = inl refl }
+    unread_ended old now WriteFault kind read = absurd kind
+    unread_ended old now Done kind read = absurd kind
+    unread_ended old now Refused kind read = absurd kind
+    unread_ended old now Usage kind read = absurd kind
+    unread_ended old now (Angle flaw) kind read = absurd kind
+    unread_ended old now OrbitTooLong kind read = absurd kind
+    unread_ended old now (BadEvent line) kind read = absurd kind
+
+-- The end of an error, and of the task that a row of the table gives.
+module _ {O : Type 0} (taken : O → Option (List ℕ)) (faults : O → ℕ) (task row : Task)
+    (same : task ≡ row) (old now : O) where
+  pub ended_by_row : (input : List ℕ) (s : Status) → HasEnded taken faults row input s old now
+      → HasEnded taken faults task input s old now
+  ended_by_row input s = subst (λ t. HasEnded taken faults t input s old now) (sym same)
+
+  pub row_limit : (limit : Option ℕ) → row.limit ≡ limit → task.limit ≡ limit
+  row_limit limit is = subst (λ t. t.limit ≡ limit) (sym same) is
+
+pub ended_on_by : {O : Type 0} (taken : O → Option (List ℕ)) (faults : O → ℕ) (task : Task) (left : Option (List ℕ))
+    (old now : O) (r : Result Unit Status) (s : Status) → IsErrAnd r (λ t. t ≡ s)
+    → HasEndedOn taken faults task left s old now → HasEndedOn taken faults task left (ended_with r) old now
+ended_on_by taken faults task left old now r s is =
+    subst (λ t. HasEndedOn taken faults task left t old now) (sym (ended_is r s is))
+
+pub read_by : {S : Type 0} (left : S → Option (List ℕ)) (faults : S → ℕ) (limit : Option ℕ) (old now : S)
+    (r : Result Unit Status) (s : Status) → IsErrAnd r (λ t. t ≡ s) → HasRead left faults limit s old now
+    → HasRead left faults limit (ended_with r) old now
+read_by left faults limit old now r s is = subst (λ t. HasRead left faults limit t old now) (sym (ended_is r s is))
+
+-- The arm of a command that reads: its input was not read, or its task ended with what was read.
+module _ {O S : Type 0} (taken : O → Option (List ℕ)) (out_faults : O → ℕ) (left : S → Option (List ℕ)) (faults : S → ℕ)
+    (task row : Task) (same : task ≡ row) (limit : ℕ) (is : row.limit ≡ Some limit) (source : S) (old : O) where
+  pub arm_unread : (now : S) (r : Result Unit Status) (s : Status) → IsErrAnd r (λ t. t ≡ s) → IsReadStatus s
+      → HasRead left faults (Some limit) s source now
+      → HasEndedOn taken out_faults task (left source) (ended_with r) old old
+  arm_unread now r s by kind read =
+      ended_on_by taken out_faults task (left source) old old r s
+      by (unread_ended left faults taken out_faults task limit
+      (row_limit taken out_faults task row same old old (Some limit) is) old source now s kind read)
+
+  pub arm_read : (now : O) (input handed : List ℕ) (s : Status) → handed ≡ input
+      → IsInput (Some limit) (left source) input → HasEnded taken out_faults row handed s old now
+      → HasEndedOn taken out_faults task (left source) s old now
+  arm_read now input handed s given read ended =
+      ended_read taken out_faults task (left source) s old now limit input
+      (row_limit taken out_faults task row same old now (Some limit) is) read
+      (ended_by_row taken out_faults task row same old now input s
+      (subst (λ i. HasEnded taken out_faults row i s old now) given ended))

@@ -1,23 +1,18 @@
--- The text of an orbit with its kneading sequence and its transition matrix. Source: this project's
--- choice.
-use Rattle.std.specs.Prelude.{◌≡◌, ℕ, List, ◌∷◌, ◌++◌, length, codes}
+-- The command `show`: an orbit with its kneading sequence and its transition matrix. Source: this
+-- project's choice.
+use Rattle.std.specs.Prelude.{◌≡◌, ℕ, List, [], ◌∷◌, ◌++◌, None, length, map, codes}
 use Rattle.std.specs.Fmt.{decimal}
-use Rattle.std.specs.List.{flat_map}
+use Rattle.std.specs.List.{flat_map, range_with_len}
 use Rattle.ce_angle.specs.Fraction.{Fraction}
 use Rattle.ce_angle.specs.LowestTerms.{in_lowest_terms}
-use Rattle.ce_orbit.specs.Orbit.{ForwardOrbit, IsForwardOrbit, period_of}
-use Rattle.ce_orbit.specs.Symbols.{symbol_of}
-use Rattle.ce_orbit.specs.declared.symbol.Symbol.{Symbol}
-use Rattle.ce_orbit.specs.declared.symbol.Symbol.TheVariants.{One, Zero, Star}
+use Rattle.ce_orbit.specs.Orbit.{ForwardOrbit, IsForwardOrbit, HasOrbitAbove, period_of}
+use Rattle.ce_orbit.specs.Symbols.{symbol_of, symbol_text}
 use Rattle.ce_rows.specs.Rows.{row_at, targets_of}
 use Rattle.ce_rows.specs.declared.row.Row.{Row}
 use Rattle.ce_thurston.specs.Indices.{index_of, pair_places, rows_of_orbit}
-use Rattle.core_entropy.specs.Text.{ended, fraction_text}
-
-abbrev pub symbol_text : Symbol → List ℕ
-symbol_text One = codes "1"
-symbol_text Zero = codes "0"
-symbol_text Star = codes "*"
+use Rattle.core_entropy.specs.Task.{Task, Unless}
+use Rattle.ce_angle.specs.Spelled.{ended, fraction_text}
+use Rattle.core_entropy.specs.declared.status.Status.TheVariants.{Done, OrbitTooLong}
 
 -- words, each after a space
 abbrev pub spaced : {X : Type 0} → (X → List ℕ) → List X → List ℕ
@@ -56,10 +51,12 @@ pair_line o pair =
 abbrev pub rows_text : ForwardOrbit → List ℕ
 rows_text o = flat_map (pair_line o) (pair_places o)
 
+-- the lines before the rows
+abbrev pub head_text : ForwardOrbit → List ℕ
+head_text o = angle_heading o.angle ++ cycle_line o ++ orbit_line o ++ symbols_line o ++ pairs_line o
+
 abbrev pub show_text : ForwardOrbit → List ℕ
-show_text o =
-    angle_heading o.angle ++ cycle_line o ++ orbit_line o ++ symbols_line o
-    ++ pairs_line o ++ rows_text o
+show_text o = head_text o ++ rows_text o
 
 -- A text shows the orbit of an angle.
 pub record IsShowText (angle : Fraction) (text : List ℕ) : Type 0 where
@@ -67,3 +64,11 @@ pub record IsShowText (angle : Fraction) (text : List ℕ) : Type 0 where
   pub is_orbit : IsForwardOrbit orbit
   pub of_angle : orbit.angle ≡ angle
   pub spelled : text ≡ show_text orbit
+
+abbrev pub show_task : Fraction → Task
+show_task angle = record {
+  limit = None;
+  Ends = λ input. Unless (HasOrbitAbove 128 angle) OrbitTooLong (λ s. s ≡ Done);
+  Writes = λ input text. IsShowText angle text;
+  Claims = λ input text claims. claims ≡ [];
+}

@@ -1,7 +1,7 @@
 // The error line of a status, made without taking memory.
 ghost use Rattle.std.specs.Prelude.{◌≡◌, ◌≤◌, ◌+◌, ◌++◌, length, take};
 ghost use Rattle.core_entropy.specs.Status.{error_line};
-ghost use Rattle.core_entropy.specs.ErrorLine.{line_len, shown};
+ghost use Rattle.core_entropy.specs.ErrorLineInside.{line_len, shown};
 
 use crate::status::Status;
 use ce_angle::AngleError;
@@ -17,7 +17,7 @@ pub struct ErrorLine {
 }
 
 impl ErrorLine {
-    /// The line of a status; `Done` has an empty one.
+    /// The line of a status; where a whole text was written it is empty.
     pub fn of(status: Status) -> ErrorLine
         ensures text { shown result ≡ error_line status }
         ensures room { line_len result ≤ 64 }
@@ -27,7 +27,7 @@ impl ErrorLine {
             len: 0,
         };
         match status {
-            Status::Done => {}
+            Status::Done | Status::Refused => {}
             Status::Usage => line.put(b"error: usage\n"),
             Status::Angle(AngleError::NotAFraction) => line.put(b"error: NotAFraction\n"),
             Status::Angle(AngleError::ZeroDenominator) => line.put(b"error: ZeroDenominator\n"),
@@ -61,7 +61,8 @@ impl ErrorLine {
     // Adds a piece at the end.
     fn put(&mut self, piece: &[u8])
         requires { self.old.len + length piece.now ≤ 64 }
-        ensures bytes { take self.new.len self.new.bytes ≡ take self.old.len self.old.bytes ++ piece.now }
+        ensures bytes { take self.new.len self.new.bytes
+            ≡ take self.old.len self.old.bytes ++ piece.now }
         ensures len { self.new.len ≡ self.old.len + length piece.now }
     {
         let end = self.len + piece.len();

@@ -1,12 +1,20 @@
 use Rattle.std.proofs.Common.{map, string_bytes}
-use Rattle.ce_port.specs.Sink.{Rose}
-use Rattle.core_entropy.proofs.OneStatus.{settled, settled_unread}
+use Rattle.core_entropy.specs.Table.{task_asked}
+use Rattle.core_entropy.specs.Status.{ended_with}
+use Rattle.core_entropy.proofs.Lawful.{words_lawful}
+use Rattle.core_entropy.proofs.Outcomes.{complete, headline, refused}
 use Rattle.core_entropy.proofs.run.run_command.Goals as goal
 
-pub returns-clause-complete : goal.returns-clause-complete
-returns-clause-complete g c = λ input s told calls.
-    rw c.tell.ensures.same (settled (map string_bytes c.args.words.now) input (g.S.Source.left c.args.source.now) s c.answer-status.result (Rose (g.S.Source.faults c.args.source.now) (g.S.Source.faults c.answer-status.new.source)) (Rose (g.O.Sink.faults c.args.out.now) (g.O.Sink.faults c.answer-status.new.out)) told calls c.answer-status.ensures.cause c.answer-status.ensures.source_fault c.answer-status.ensures.fault)
+pub returns-clause-headline : goal.returns-clause-headline
+returns-clause-headline g c =
+    let words = map string_bytes c.args.words.now in
+    headline g.O.Sink.taken g.O.Sink.faults (task_asked words) (g.S.Source.left c.args.source.now)
+    (ended_with c.answer.result) c.args.out.now c.answer.new.out c.answer.ensures.ended (words_lawful words)
 
-pub returns-clause-complete_unread : goal.returns-clause-complete_unread
-returns-clause-complete_unread g c = λ s none calls.
-    rw c.tell.ensures.same (settled_unread (map string_bytes c.args.words.now) none (g.S.Source.left c.args.source.now) s c.answer-status.result (Rose (g.O.Sink.faults c.args.out.now) (g.O.Sink.faults c.answer-status.new.out)) calls c.answer-status.ensures.cause c.answer-status.ensures.read_fault c.answer-status.ensures.fault)
+pub returns-clause-complete : goal.returns-clause-complete
+returns-clause-complete g c =
+    let words = map string_bytes c.args.words.now in
+    rw (c.tell.ensures.same, c.of-status.ensures)
+    (complete g.O.Sink.taken g.O.Sink.faults (task_asked words) (g.S.Source.left c.args.source.now)
+    (ended_with c.answer.result) c.args.out.now c.answer.new.out c.answer.ensures.ended (words_lawful words)
+    g.S.Source.left g.S.Source.faults c.args.source.now c.answer.new.source c.answer.ensures.read)

@@ -1,0 +1,128 @@
+-- The task of the command `watch`.
+use Rattle.std.proofs.Common.{◌≡◌, ◌<◌, ◌≤◌, ◌^◌, ◌*◌, ◌+◌, ◌++◌, ◌∷◌, ◌∙◌, ◌⊎◌, inl, inr, ℕ, List, [], Option, length}
+use Rattle.std.proofs.Common.{map, refl, sym, ap, subst, arith}
+use Rattle.std.specs.Prelude.{All}
+use Rattle.std.specs.List.{flat_map}
+use Rattle.std.proofs.Math.Nat.{mul-le-mul_left, pow-le-pow_left}
+use Rattle.std.proofs.lemmas.List.Elements.{All-append, All-cons, All-nil}
+use Rattle.ce_angle.specs.Fraction.{Fraction, IsAngle}
+use Rattle.ce_cert.proofs.Enclose.{certificate_encloses}
+use Rattle.ce_live.specs.declared.reading.Reading.{Reading}
+use Rattle.ce_orbit.specs.Orbit.{ForwardOrbit, HasOrbitAbove, HasOrbitWithin, IsForwardOrbit}
+use Rattle.ce_port.specs.Pieces.{GrewAllBut}
+use Rattle.ce_port.specs.Sink.{GrewBy}
+use Rattle.ce_port.specs.WriteAll.{GrewByPrefix}
+use Rattle.ce_rows.specs.Growth.{Encloses, IsGrowthLowerBound, IsGrowthUpperBound}
+use Rattle.ce_rows.specs.Rows.{AreScaledRows, EnclosesRows, ScaledRows}
+use Rattle.ce_rows.specs.Scale.{IsExponent}
+use Rattle.ce_rows.specs.declared.interval.Interval.{Interval}
+use Rattle.ce_solve.specs.SolvedRows.{AreReadingsFrom, Closing, IsSolved}
+use Rattle.ce_thurston.specs.Indices.{rows_at}
+use Rattle.ce_thurston.specs.Pairs.{pair_walks}
+use Rattle.ce_thurston.proofs.OrbitRows.{rows_in_range}
+use Rattle.ce_words.specs.Logs.{Each}
+use Rattle.ce_words.specs.Steps.{LiesInside}
+use Rattle.core_entropy.specs.Angle.{interval_of, line_of}
+use Rattle.core_entropy.specs.Calls.{CallsFor}
+use Rattle.core_entropy.specs.Headline.{ClaimsTruly, IsTrueClaim}
+use Rattle.core_entropy.specs.Output.{GrewByPart, HasEnded, Wrote}
+use Rattle.core_entropy.specs.Status.{IsEndOfAnswer}
+use Rattle.core_entropy.specs.Task.{Claim}
+use Rattle.core_entropy.specs.Watch.{IsWatchText, reading_claim, reading_line, watch_task, watch_text}
+use Rattle.core_entropy.specs.declared.status.Status.{Status}
+use Rattle.core_entropy.specs.declared.status.Status.TheVariants.{Done}
+use Rattle.core_entropy.proofs.DegreeClaims.{doubling_true}
+use Rattle.core_entropy.proofs.AngleTask.{inside_initial, one_true, orbit_called, orbit_one, orbit_some, short_done}
+use Rattle.core_entropy.proofs.Enclosed.{pairs_enclosed}
+use Rattle.core_entropy.proofs.Ended.{answered, wrote_weaker}
+use Rattle.core_entropy.proofs.Stages.{IsLawful}
+
+-- What contains an interval that encloses does too.
+widened : (exponent : ℕ) (count : ℕ → ℕ) (low high from to : ℕ) → from ≤ low → high ≤ to
+    → Encloses exponent count low high → Encloses exponent count from to
+unfolding IsGrowthLowerBound IsGrowthUpperBound
+widened exponent count low high from to below above h = record {
+  below = (
+    h.below.0,
+    h.below.1,
+    λ n. let less = pow-le-pow_left {n = from} {m = low} below n in
+        omega (arith, less, h.below.2 n),
+  );
+  above = (
+    h.above.0,
+    h.above.1,
+    h.above.2,
+    λ n.
+        let less = pow-le-pow_left {n = high} {m = to} above n in
+        let more : h.above.0 * (n + 1) ^ h.above.1 * high ^ n ≤ h.above.0 * (n + 1) ^ h.above.1 * to ^ n =
+        mul-le-mul_left (h.above.0 * (n + 1) ^ h.above.1) less in
+        omega (arith, more, h.above.3 n),
+  );
+}
+
+module _ (angle : Fraction) (exponent : ℕ) (o : ForwardOrbit) (is_orbit : IsForwardOrbit o) (of_angle : o.angle ≡ angle)
+    (low high : ℕ) (encloses : Encloses exponent (pair_walks o) low high) where
+  reading_true : (r : Reading) → LiesInside r.interval.low r.interval.high low high
+      → IsTrueClaim (reading_claim angle exponent r)
+  reading_true r contains =
+      let wide = widened exponent (pair_walks o) low high r.interval.low r.interval.high
+      contains.from contains.to encloses in
+      doubling_true o (reading_claim angle exponent r) is_orbit refl of_angle wide tt
+
+  readings_true : (readings : List Reading) → Each (λ (r : Reading). LiesInside r.interval.low r.interval.high low high)
+      readings → All IsTrueClaim (map (reading_claim angle exponent) readings)
+  readings_true [] each = All-nil IsTrueClaim
+  readings_true (r ∷ rest) each =
+      All-cons IsTrueClaim (reading_claim angle exponent r) (map (reading_claim angle exponent) rest)
+      (reading_true r each.0) (readings_true rest each.1)
+
+module _ (angle : Fraction) (rounds turns workers sessions reads exponent : ℕ) (known : IsExponent exponent) where
+  watch_true : (input text : List ℕ) → IsWatchText angle rounds turns workers sessions reads exponent text
+      → ClaimsTruly (watch_task rounds turns workers sessions reads exponent angle) input text
+  watch_true input text h =
+      let rows = rows_at h.orbit exponent in
+      let are : AreScaledRows rows = record { rows = rows_in_range h.orbit h.is_orbit h.few; scale = known } in
+      let encloses = certificate_encloses rows h.closing.evidence are h.solution.certificate in
+      let interval = interval_of h.closing in
+      let last = one_true h.orbit angle rounds exponent interval h.is_orbit h.of_angle encloses
+      (inside_initial rows rounds turns workers h.closing are h.solution) in
+      let pairs = pairs_enclosed h.orbit exponent interval.low interval.high h.is_orbit encloses in
+      let first = readings_true angle exponent h.orbit h.is_orbit h.of_angle interval.low interval.high pairs
+      h.closing.readings h.solution.contain in
+      (_, (h.closing.readings, interval, h.spelled, refl), All-append IsTrueClaim _ _ first last)
+
+  pub watch_lawful : IsAngle angle → IsLawful (watch_task rounds turns workers sessions reads exponent angle)
+  watch_lawful is = record {
+    some = λ input. orbit_some angle is;
+    one = λ input. orbit_one angle;
+    called = λ input. orbit_called angle;
+    true = watch_true;
+  }
+
+  -- How the task ended.
+  pub watch_ended : {O : Type 0} (taken : O → Option (List ℕ)) (faults : O → ℕ) (old now : O) → HasOrbitWithin 128 angle
+      → (s : Status) → IsEndOfAnswer Done s
+      → Wrote taken faults (IsWatchText angle rounds turns workers sessions reads exponent) s old now
+      → HasEnded taken faults (watch_task rounds turns workers sessions reads exponent angle) [] s old now
+  watch_ended taken faults old now short s end wrote =
+      let task = watch_task rounds turns workers sessions reads exponent angle in
+      let calls : CallsFor task [] Done = inr (λ none. none, short_done angle short) in
+      answered taken faults task [] Done old now (λ none. none) calls s end wrote
+
+-- A text of an orbit's readings and line.
+pub watched : (o : ForwardOrbit) (exponent rounds turns workers sessions reads : ℕ) (rows : ScaledRows) (e : Closing)
+    (angle : Fraction) → IsForwardOrbit o → length o.places ≤ 128 → angle ≡ o.angle → rows ≡ rows_at o exponent
+    → IsSolved rows rounds turns workers e → AreReadingsFrom 0 sessions reads e.readings → (text : List ℕ)
+    → text ≡ watch_text angle exponent e.readings (interval_of e)
+    → IsWatchText o.angle rounds turns workers sessions reads exponent text
+watched o exponent rounds turns workers sessions reads rows e angle is_orbit few of_angle same solution
+    readings text spelled = record {
+      orbit = o;
+      is_orbit = is_orbit;
+      of_angle = refl;
+      few = few;
+      closing = e;
+      solution = subst (λ r. IsSolved r rounds turns workers e) same solution;
+      readings = readings;
+      spelled = spelled ∙ ap (λ a. watch_text a exponent e.readings (interval_of e)) of_angle;
+    }

@@ -16,9 +16,21 @@ mod error_line;
 mod input;
 mod laws;
 mod line;
+#[cfg(test)]
+mod map_tests;
+#[cfg(test)]
+mod replay_tests;
 mod run;
+#[cfg(test)]
+mod schedule_tests;
 mod status;
+#[cfg(test)]
+mod tests;
+#[cfg(test)]
+mod text_tests;
 mod words;
+#[cfg(test)]
+mod worked;
 
 use ce_port::{StdSink, StdSource};
 use ce_words::FreeGate;

@@ -6,6 +6,7 @@ use Rattle.std.proofs.lemmas.List.Elements.{All-nil, All-cons}
 use Rattle.ce_rows.specs.declared.event.Event.{Event}
 use Rattle.ce_rows.specs.declared.event.Event.TheVariants.{Load, Relax, Shrink, Low, High, Raise, Lower, Shift, Ask, Halted, Stop}
 use Rattle.ce_cert.proofs.FirstFlaw.{same_or_not}
+use Rattle.ce_core.specs.Machine.{actor_count}
 use Rattle.ce_core.specs.Script.{event_line, script_of, IsEventBelow, IsScriptOf, IsFirstBad}
 
 or_else : {F A B : Type 0} → F ⊎ A → (A → F ⊎ B) → F ⊎ B
@@ -48,18 +49,20 @@ module _ (entries : ℕ) (text : List ℕ) where
   abbrev Found : Type 0
   Found = (event : Event) × IsEventBelow entries event × Reads event
 
-  shared : (make : ℕ → Event) → ((a : ℕ) → a < 16 → IsEventBelow entries (make a))
-      → Found ⊎ ((a : ℕ) → a < 16 → ¬ (Reads (make a)))
-  shared make is = elim (below (λ a. Reads (make a)) (λ a. begins_or (event_line (make a) ++ 10 ∷ []) text) 16) [
-    | inl (a, less, reads) ↦ inl (make a, is a less, reads)
-    | inr none ↦ inr none
-  ]
+  shared : (make : ℕ → Event) → ((a : ℕ) → a < actor_count → IsEventBelow entries (make a))
+      → Found ⊎ ((a : ℕ) → a < actor_count → ¬ (Reads (make a)))
+  shared make is =
+      elim (below (λ a. Reads (make a)) (λ a. begins_or (event_line (make a) ++ 10 ∷ []) text) actor_count) [
+        | inl (a, less, reads) ↦ inl (make a, is a less, reads)
+        | inr none ↦ inr none
+      ]
 
-  entry : (make : ℕ → ℕ → Event) → ((a i : ℕ) → a < 16 → i < entries → IsEventBelow entries (make a i))
-      → Found ⊎ ((a i : ℕ) → a < 16 → i < entries → ¬ (Reads (make a i)))
+  entry : (make : ℕ → ℕ → Event) → ((a i : ℕ) → a < actor_count → i < entries → IsEventBelow entries (make a i))
+      → Found ⊎ ((a i : ℕ) → a < actor_count → i < entries → ¬ (Reads (make a i)))
   entry make is =
       elim (below (λ a. (i : ℕ) × (i < entries) × Reads (make a i))
-      (λ a. go a (below (λ i. Reads (make a i)) (λ i. begins_or (event_line (make a i) ++ 10 ∷ []) text) entries)) 16) [
+      (λ a. go a (below (λ i. Reads (make a i)) (λ i. begins_or (event_line (make a i) ++ 10 ∷ []) text) entries))
+      actor_count) [
         | inl (a, less, (i, small, reads)) ↦ inl (make a i, is a i less small, reads)
         | inr none ↦ inr (λ a i less small reads. none a less (i, small, reads))
       ]
@@ -70,10 +73,10 @@ module _ (entries : ℕ) (text : List ℕ) where
       go a (inr none) = inr (λ (i, small, reads). none i small reads)
 
   abbrev OnEntry : (ℕ → ℕ → Event) → Type 0
-  OnEntry make = (a i : ℕ) → a < 16 → i < entries → ¬ (Reads (make a i))
+  OnEntry make = (a i : ℕ) → a < actor_count → i < entries → ¬ (Reads (make a i))
 
   abbrev OnShared : (ℕ → Event) → Type 0
-  OnShared make = (a : ℕ) → a < 16 → ¬ (Reads (make a))
+  OnShared make = (a : ℕ) → a < actor_count → ¬ (Reads (make a))
 
   -- the first line is that of an event, or of none
   first : Found ⊎ ((event : Event) → IsEventBelow entries event → ¬ (Reads event))

@@ -77,7 +77,8 @@ module _ (rows : ScaledRows) (ranks : List ℕ) (m : Machine) (event : Event) (o
       (set m.actors (actor_of event) k)) kept_is
 
 -- what the code leaves and answers is one event of the machine
-pub record IsOneEvent (f : Inside) (event : Event) (s : SharedFields) (k : ℕ) (actor : Actor) (answer : ℕ) : Type 0 where
+pub record IsOneEvent (f : Inside) (event : Event) (s : SharedFields) (k : ℕ) (actor : Actor)
+    (answer : ℕ) : Type 0 where
   pub machine : machine_of (shared_of s) (map kept_of (set f.actors.items k actor))
       ≡ after_event f.rows.now f.ranks.now (state_of f).machine event
   pub answer_is : answer ≡ answer_to f.rows.now f.ranks.now (state_of f).machine event

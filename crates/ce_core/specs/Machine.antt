@@ -6,7 +6,7 @@ use Rattle.ce_rows.specs.Actors.{ActorState, actor_at_start, after_answer}
 use Rattle.ce_rows.specs.Blocks.{block_sum_of}
 use Rattle.ce_rows.specs.Events.{Shared, actor_of, act_of, after_act, answer_of}
 use Rattle.ce_rows.specs.declared.act.Act.{Act}
-use Rattle.ce_rows.specs.declared.act.Act.TheVariants.{Loads, Relaxes, Shrinks, LoadsLow, LoadsHigh, Raises, Lowers, LoadsShift, Asks, Stops}
+use Rattle.ce_rows.specs.declared.act.Act.TheVariants.{Relaxes, Shrinks, Raises, Lowers, Asks, Stops}
 use Rattle.ce_rows.specs.Rows.{ScaledRows}
 use Rattle.ce_rows.specs.declared.event.Event.{Event}
 use Rattle.ce_vector.specs.Relaxation.{relaxed, rescaled}

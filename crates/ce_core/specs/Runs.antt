@@ -1,10 +1,8 @@
 -- Runs of the machine: lists of events from a start. Source: this project's choice.
 use Rattle.std.specs.Prelude.{ℕ, ◌<◌, ◌≤◌, List, All, fold}
-use Rattle.ce_rows.specs.Blocks.{IsRanking}
 use Rattle.ce_rows.specs.Events.{Shared, actor_of}
-use Rattle.ce_rows.specs.Rows.{ScaledRows, AreScaledRows, EnclosesRows}
+use Rattle.ce_rows.specs.Rows.{ScaledRows}
 use Rattle.ce_rows.specs.declared.event.Event.{Event}
-use Rattle.ce_cert.specs.Vectors.{IsVectorOf}
 use Rattle.ce_rows.specs.Actors.{ActorState}
 use Rattle.ce_core.specs.Machine.{Machine, machine_at_start, after_event}
 

@@ -7,8 +7,8 @@ ghost use Rattle.ce_cert.specs.Start.{IsStart};
 ghost use Rattle.ce_core.specs.Runs.{AreBy, LiesWithin, shared_after};
 
 /// After every list of events by any number of actors the interval encloses the growth rate, and
-/// lies inside the initial enclosure and inside the interval after each prefix of the list; every entry stays
-/// from 1 to 2^60. Where the stop word is set, the bounds are equal.
+/// lies inside the initial enclosure and inside the interval after each prefix of the list; every
+/// entry stays from 1 to 2^60. Where the stop word is set, the bounds are equal.
 pub fn events_keep_the_enclosure()
     ensures encloses { (rows : ScaledRows) (ranks start : List ℕ) (low high count : ℕ) (events : List Event)
         → IsStart rows ranks start low high → AreBy count events

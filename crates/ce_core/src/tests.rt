@@ -66,6 +66,10 @@ fn answers_to(alloc: Global, core: &mut Core<'_>, events: &[Event]) -> Result<Ve
     Ok(answers)
 }
 
+fn interval(low: u64, high: u64) -> Interval {
+    Interval { low, high }
+}
+
 // The entries of a machine.
 fn entries_of(core: &Core<'_>) -> [u64; 3]
     requires { length core.now.rows.list ≡ 3 }
@@ -103,14 +107,8 @@ fn events_give_their_answers(rt: HostRuntime) -> Result<(), Fail> {
         answers.as_slice()
     );
     assert_eq!(rt; entries_of(&core), [115292150460684697, HALF, HALF]);
-    let narrowed = Interval {
-        low: 5368709120,
-        high: 8589934592,
-    };
-    let initial = Interval {
-        low: 4294967296,
-        high: 8589934592,
-    };
+    let narrowed = interval(5368709120, 8589934592);
+    let initial = interval(4294967296, 8589934592);
     assert_eq!(rt;
         [core.interval(), core.seen(0), core.seen(3)],
         [narrowed, narrowed, initial]

@@ -10,4 +10,3 @@ pub mod Permits
 pub mod Table
 pub mod Opening
 pub mod TwoLoads
-pub mod Own

@@ -12,13 +12,12 @@ use Rattle.ce_rows.specs.declared.act.Act.{Act}
 use Rattle.ce_rows.specs.declared.act.Act.TheVariants.{Loads, Relaxes}
 use Rattle.ce_rows.specs.declared.act.LogEntry.{LogEntry}
 use Rattle.ce_vector.specs.Relaxation.{relaxed}
-use Rattle.ce_words.specs.Steps.{IsStep}
-use Rattle.ce_words.specs.Views.{rows_of, kept, logged, noted, viewed, place}
+use Rattle.ce_words.specs.Views.{rows_of, kept, noted, viewed, place}
 use Rattle.ce_words.specs.declared.view.Run.{Run}
 use Rattle.ce_words.specs.declared.view.View.{View}
-use Rattle.ce_crew.specs.MachineSteps.{acts_of, IsMachineStep, AreMachineSteps}
-use Rattle.ce_crew.specs.Turn.{relaxed_by, greatest_relaxed, loads_of}
-use Rattle.ce_crew.specs.Gains.{copy_by, copied, grown, Gains, IsRunStart}
+use Rattle.ce_crew.specs.MachineSteps.{acts_of, AreMachineSteps}
+use Rattle.ce_crew.specs.Turn.{greatest_relaxed, loads_of}
+use Rattle.ce_crew.specs.Gains.{copied, grown, Gains, IsRunStart}
 use Rattle.ce_crew.proofs.Copies.{copy_is_copied, copied-append, copies_agree, loaded_agree, AnyLoads, any_of_loads}
 use Rattle.ce_crew.proofs.Copies.{block_sums_agree, image_inside}
 use Rattle.ce_crew.proofs.Grown.{actor_after-append, acts_of-append, steps-append, length-actor_after, AreOnEntries}
@@ -29,12 +28,6 @@ pub greatest-append : (xs ys : List LogEntry)
 greatest-append [] ys = omega arith
 greatest-append (x ∷ xs) ys = let rest = greatest-append xs ys in omega (arith, rest)
 
--- A step that the shared state took is the machine's, if it carries the machine's number.
-pub machine_step : (v : View) (act : Act) (number answer : ℕ) → IsStep v act number answer
-    → number ≡ carried (rows_of v.run) v.run.ranks (kept v.run v.place.log) act
-    → IsMachineStep v.run (kept v.run v.place.log) (logged act number answer)
-machine_step v act number answer step is = record { carries = is; found = step.before; answers = step.answers }
-
 pub gains_none : (v : View) (xs : List ℕ) → Gains [] 0 v v xs xs
 gains_none v xs = record {
   steps = [];
@@ -44,18 +37,6 @@ gains_none v xs = record {
   machine = tt;
   copy_is = refl;
   greatest_is = refl;
-}
-
-pub gains_one : (v w : View) (xs ys : List ℕ) (act : Act) (number answer : ℕ) → w ≡ noted v (logged act number answer)
-    → IsStep v act number answer → number ≡ carried (rows_of v.run) v.run.ranks (kept v.run v.place.log) act
-    → ys ≡ copy_by act answer xs → Gains (act ∷ []) (relaxed_by act answer) v w xs ys
-gains_one v w xs ys act number answer is step carries copies = record {
-  steps = logged act number answer ∷ [];
-  view_is = is;
-  acts_are = refl;
-  machine = (machine_step v act number answer step carries, tt);
-  copy_is = copies;
-  greatest_is = omega arith;
 }
 
 pub gains_then : (cs bs : List Act) (g h : ℕ) (u v w : View) (xs ys zs : List ℕ) → Gains cs g u v xs ys
@@ -82,12 +63,6 @@ pub loads_then : (cs bs : List Act) (u v w : View) (xs ys zs : List ℕ) → Gai
 loads_then cs bs u v w xs ys zs one two = gains_then cs bs 0 0 u v w xs ys zs one two
 
 -- loops over a range
-pub gains_start : (f : ℕ → List Act) (a : ℕ) (v : View) (xs : List ℕ)
-    → Gains (flat_map f (range_with_len a (a - a))) 0 v v xs xs
-gains_start f a v xs =
-    let z : a - a ≡ 0 = omega arith in
-    subst (λ (k : ℕ). Gains (flat_map f (range_with_len a k)) 0 v v xs xs) (sym z) (gains_none v xs)
-
 range_more : (a i : ℕ) → a ≤ i → range_with_len a (i + 1 - a) ≡ range_with_len a (i - a) ++ i ∷ []
 range_more a i le =
     let n : i + 1 - a ≡ (i - a) + 1 = omega arith in let here : a + (i - a) ≡ i = omega arith in

@@ -109,19 +109,20 @@ module _ (run : Run) where
         values : ℕ
         values = cond (eqb (slice_index run.start e) a) 1 0 + stores e a q.log
 
-    up : (is : Act → Bool) (act : Act) (start seen x a : ℕ)
+    -- an answer of a word that only rises, and of one that only falls
+    pub only_greatest : (is : Act → Bool) (act : Act) (start seen x a : ℕ)
         → AnswersUp start seen (λ c. 0 < times is c (before ++ logged act x a ∷ []))
         (λ c. times is c q.log < total (λ (p : Place). times is c p.log) (q ∷ [])) a
         → IsGreatest start (IsOffered is before act x) a
-    up is act start seen x a h = up_alone start seen a _ _ (IsOffered is before act x)
+    only_greatest is act start seen x a h = up_alone start seen a _ _ (IsOffered is before act x)
         (λ c l. subst (λ (k : ℕ). 0 < k) (grown is act x a c) l)
         (λ c l. subst (λ (k : ℕ). 0 < k) (sym (grown is act x a c)) l) (no_others is) h
 
-    down : (is : Act → Bool) (act : Act) (start seen x a : ℕ)
+    only_least : (is : Act → Bool) (act : Act) (start seen x a : ℕ)
         → AnswersDown start seen (λ c. 0 < times is c (before ++ logged act x a ∷ []))
         (λ c. times is c q.log < total (λ (p : Place). times is c p.log) (q ∷ [])) a
         → IsLeast start (IsOffered is before act x) a
-    down is act start seen x a h = down_alone start seen a _ _ (IsOffered is before act x)
+    only_least is act start seen x a h = down_alone start seen a _ _ (IsOffered is before act x)
         (λ c l. subst (λ (k : ℕ). 0 < k) (grown is act x a c) l)
         (λ c l. subst (λ (k : ℕ). 0 < k) (sym (grown is act x a c)) l) (no_others is) h
 
@@ -130,12 +131,12 @@ module _ (run : Run) where
     only own (Loads e) x a h m = h.1 (owned e a h.0)
     only own (Relaxes e) x a h m = m.answers
     only own (Shrinks e) x a h m = m.answers
-    only own LoadsLow x a h m = up is_raise LoadsLow run.initial.low (kept run before).low x a h
-    only own Raises x a h m = up is_raise Raises run.initial.low (kept run before).low x a h
-    only own LoadsHigh x a h m = down is_lower LoadsHigh run.initial.high (kept run before).high x a h
-    only own Lowers x a h m = down is_lower Lowers run.initial.high (kept run before).high x a h
-    only own LoadsShift x a h m = up is_ask LoadsShift 0 _ x a h
-    only own Asks x a h m = up is_ask Asks 0 _ x a h
+    only own LoadsLow x a h m = only_greatest is_raise LoadsLow run.initial.low (kept run before).low x a h
+    only own Raises x a h m = only_greatest is_raise Raises run.initial.low (kept run before).low x a h
+    only own LoadsHigh x a h m = only_least is_lower LoadsHigh run.initial.high (kept run before).high x a h
+    only own Lowers x a h m = only_least is_lower Lowers run.initial.high (kept run before).high x a h
+    only own LoadsShift x a h m = only_greatest is_ask LoadsShift 0 _ x a h
+    only own Asks x a h m = only_greatest is_ask Asks 0 _ x a h
     only own LoadsStop x a h m = tt
     only own Stops x a h m = tt
 

@@ -1,5 +1,5 @@
 -- Turns with nobody else are determined: two owners who took as many turns have the same log.
-use Rattle.std.proofs.Common.{◌≡◌, ℕ, zero, suc, ◌^◌, ◌<◌, inl, inr, List, []}
+use Rattle.std.proofs.Common.{◌≡◌, ℕ, zero, suc, ◌<◌, inl, inr, List, []}
 use Rattle.std.proofs.Common.{◌∷◌, ◌++◌, map, length, refl, sym, ap, ◌∙◌, subst, arith, append_assoc, append-nil}
 use Rattle.std.specs.List.{flat_map}
 use Rattle.std.proofs.lemmas.Bool.{cases_lt}
@@ -14,26 +14,22 @@ use Rattle.ce_words.specs.declared.view.Part.{Part}
 use Rattle.ce_words.specs.declared.view.Place.{Place}
 use Rattle.ce_words.specs.declared.view.Run.{Run}
 use Rattle.ce_crew.specs.MachineSteps.{acts_of}
-use Rattle.ce_crew.specs.Turn.{entries_between, loads_of, relaxing_acts, greatest_relaxed, opening_of}
+use Rattle.ce_crew.specs.Turn.{entries_between, great_entry, loads_of, relaxing_acts, greatest_relaxed, opening_of}
 use Rattle.ce_crew.specs.Turn.{IsRescaling, IsTurn, rescalings_after}
 use Rattle.ce_crew.specs.WorkerLogs.{IsTurns}
 use Rattle.ce_crew.proofs.BestVectors.{NoneIs}
-use Rattle.ce_crew.proofs.Turns.{CertifiesNothing, none_in_loads, none_in_sweep, none_in_rescaling}
+use Rattle.ce_crew.proofs.Turns.{CertifiesNothing, none-append, none_in_loads, none_in_sweep, none_in_rescaling}
 use Rattle.ce_crew.proofs.LoneSteps.{EachFits-split, is_on_stop, IsLoneStep, FitsAlone, lone_steps, same_steps}
 
 off_stop : CertifiesNothing is_on_stop
 off_stop = record { loads = λ j. refl; relaxes = λ j. refl; shrinks = λ j. refl; asks = refl }
-
-off_stop-append : (xs ys : List Act) → NoneIs is_on_stop xs → NoneIs is_on_stop ys → NoneIs is_on_stop (xs ++ ys)
-off_stop-append [] ys p q = q
-off_stop-append (x ∷ xs) ys p q = (p.0, off_stop-append xs ys p.1 q)
 
 -- The rescaling of a part is determined by what was made, asked for and stored.
 one_rescaling : (p : Part) (made asked greatest : ℕ) (acts others : List Act)
     → IsRescaling p made asked greatest acts → IsRescaling p made asked greatest others → acts ≡ others
 one_rescaling p made asked greatest acts others h k = elim (cases_lt made asked) [
   | inl less ↦ h.rescales less ∙ sym (k.rescales less)
-  | inr enough ↦ elim (cases_lt greatest (2 ^ 59)) [
+  | inr enough ↦ elim (cases_lt greatest great_entry) [
     | inl small ↦ h.rests enough small ∙ sym (k.rests enough small)
     | inr great ↦ h.asks enough great ∙ sym (k.asks enough great)
   ]
@@ -93,7 +89,7 @@ module _ (run : Run) where
         (none_in_rescaling is_on_stop off_stop p made t.asked greatest (acts_of t.rescaling) t.rescales)
         b.left b.right in
         let loads = loads_of (entries_between 0 (length run.rows)) in
-        let ends = off_stop-append loads (Raises ∷ Lowers ∷ [])
+        let ends = none-append is_on_stop loads (Raises ∷ Lowers ∷ [])
         (none_in_loads is_on_stop off_stop (entries_between 0 (length run.rows))) (refl, (refl, tt)) in
         let base = (((before ++ look) ++ seen) ++ t.relaxing) ++ t.rescaling in
         let closing = same_steps run base t.closing t'.closing (t.closes ∙ sym t'.closes)

@@ -1,5 +1,5 @@
 -- The pieces of a turn together.
-use Rattle.std.proofs.Common.{◌≡◌, ℕ, ◌^◌, ◌<◌, inl, inr, Bool, false}
+use Rattle.std.proofs.Common.{◌≡◌, ℕ, ◌<◌, inl, inr, Bool, false}
 use Rattle.std.proofs.Common.{List, [], ◌∷◌, ◌++◌, map, length, slice_index, sym, refl, ap, ◌∙◌, subst, arith}
 use Rattle.std.proofs.Common.{append_assoc}
 use Rattle.std.specs.List.{flat_map}
@@ -18,7 +18,7 @@ use Rattle.ce_words.specs.declared.view.Part.{Part}
 use Rattle.ce_words.specs.declared.view.Run.{Run}
 use Rattle.ce_words.specs.declared.view.View.{View}
 use Rattle.ce_crew.specs.MachineSteps.{acts_of, AreMachineSteps}
-use Rattle.ce_crew.specs.Turn.{greatest_relaxed, loads_of, relaxing_acts, entries_between, opening_of}
+use Rattle.ce_crew.specs.Turn.{great_entry, greatest_relaxed, loads_of, relaxing_acts, entries_between, opening_of}
 use Rattle.ce_crew.specs.Turn.{IsRescaling, IsTurn}
 use Rattle.ce_crew.specs.Gains.{copied, grown, Gains, GainsRescaling, Finishes, Opens, Offers, EndsOffering, IsRunStart}
 use Rattle.ce_crew.proofs.BestVectors.{NoneIs, times_none}
@@ -165,7 +165,7 @@ module _ (is : Act → Bool) (n : CertifiesNothing is) where
   none_in_rescaling p made asked greatest acts r = elim (cases_lt made asked) [
     | inl less ↦ subst (NoneIs is) (sym (r.rescales less)) (none-map is (λ j. Shrinks j) n.shrinks
         (entries_between p.from p.to))
-    | inr enough ↦ elim (cases_lt greatest (2 ^ 59)) [
+    | inr enough ↦ elim (cases_lt greatest great_entry) [
       | inl small ↦ subst (NoneIs is) (sym (r.rests enough small)) tt
       | inr great ↦ subst (NoneIs is) (sym (r.asks enough great)) (n.asks, tt)
     ]

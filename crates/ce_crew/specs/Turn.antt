@@ -45,12 +45,16 @@ greatest_relaxed (step ∷ steps) = max (relaxed_by step.act step.answer) (great
 abbrev pub rescalings_after : ℕ → ℕ → ℕ
 rescalings_after made asked = if nat_lt made asked then made + 1 else made
 
+-- a value from which on a rescaling is asked for
+abbrev pub great_entry : ℕ
+great_entry = 2 ^ 59
+
 -- The part is rescaled, where more rescalings were asked for than were made; otherwise one is asked
--- for, where a value that was just stored is 2^59 or more; otherwise nothing is done.
+-- for, where a value that was just stored is a great one; otherwise nothing is done.
 pub record IsRescaling (p : Part) (made asked greatest : ℕ) (acts : List Act) : Type 0 where
   pub rescales : made < asked → acts ≡ map (λ j. Shrinks j) (entries_between p.from p.to)
-  pub asks : asked ≤ made → 2 ^ 59 ≤ greatest → acts ≡ Asks ∷ []
-  pub rests : asked ≤ made → greatest < 2 ^ 59 → acts ≡ []
+  pub asks : asked ≤ made → great_entry ≤ greatest → acts ≡ Asks ∷ []
+  pub rests : asked ≤ made → greatest < great_entry → acts ≡ []
 
 module _ (run : Run) where
   -- An entry is relaxed: it is loaded, its images in its block are loaded, each once, and then its

@@ -2,6 +2,7 @@
 ghost use Rattle.std.specs.Prelude.{◌≡◌, ◌≤◌, [], IfOk, length};
 ghost use Rattle.ce_cert.specs.Start.{IsStart};
 ghost use Rattle.ce_cert.specs.Vectors.{IsVectorOf};
+ghost use Rattle.ce_words.specs.Invariant.{most_rescalings};
 ghost use Rattle.ce_words.specs.Seats.{board_run, Sits};
 ghost use Rattle.ce_words.specs.Views.{rows_of, view, opened, cut_left, CanCut};
 ghost use Rattle.ce_words.specs.declared.view.Role.TheVariants.{First};
@@ -120,7 +121,7 @@ pub(crate) fn hired(
     requires start { IsRunStart (board_run board.now) }
     requires vector { IsVectorOf (rows_of (board_run board.now)) start.now }
     requires bounds { AreBoundsOf (board_run board.now) start.now found }
-    requires few { turns ≤ 100000 }
+    requires few { turns ≤ most_rescalings }
     requires seat { Sits board.now first.old }
     requires first { (view first.old).role ≡ First }
     requires log { (view first.old).place.log ≡ [] }

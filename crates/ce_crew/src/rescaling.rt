@@ -12,7 +12,7 @@ ghost use Rattle.ce_crew.specs.Turn.{entries_between, rescalings_after};
 use ce_vector::shift;
 use ce_words::{Board, Part, Seat};
 
-// An entry from which on a rescaling is asked for.
+// A value from which on a rescaling is asked for.
 const GREAT: u64 = 1 << 59;
 
 // Stores the rescaled value of an entry.
@@ -59,7 +59,7 @@ fn ask(board: &Board, seat: &mut Seat, asked: u64)
 }
 
 // Rescales the part, where more rescalings were asked for than were made; otherwise asks for one,
-// where an entry has grown to 2^59. Answers how many rescalings are made then.
+// where an entry has grown great. Answers how many rescalings are made then.
 pub(crate) fn rescale_or_ask(
     board: &Board,
     seat: &mut Seat,

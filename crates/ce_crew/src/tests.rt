@@ -1,6 +1,7 @@
 // Workers on the words of the rows of the angles 1/4, 1/5 and 1/3, turn by turn.
 ghost use Rattle.std.specs.Prelude.{◌≡◌, ◌≤◌, length};
 ghost use Rattle.ce_cert.specs.Vectors.{IsVectorOf};
+ghost use Rattle.ce_words.specs.Invariant.{most_rescalings};
 ghost use Rattle.ce_words.specs.Seats.{board_run};
 ghost use Rattle.ce_crew.specs.Gains.{IsGraphOf};
 ghost use Rattle.ce_crew.specs.Workers.{IsWorker};
@@ -35,7 +36,7 @@ fn left_by_one(
 ) -> Result<Left, Fail>
     requires ranks { length ranks.now ≡ length rows.now.list }
     requires vector { IsVectorOf rows.now start.now }
-    requires few { turns ≤ 100000 }
+    requires few { turns ≤ most_rescalings }
 {
     let count = rows.len();
     let (board, mut first, found) = begun(alloc, rows, ranks, start)?;

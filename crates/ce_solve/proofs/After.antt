@@ -10,7 +10,7 @@ use Rattle.ce_words.specs.declared.view.Part.{Part}
 use Rattle.ce_words.specs.declared.view.Place.{Place}
 use Rattle.ce_live.specs.Sessions.{SessionState}
 use Rattle.ce_crew.specs.declared.worker.Worker.{Worker}
-use Rattle.ce_solve.specs.Actors.{CanRun, HasRun, HasRunWorker, HasRunSession, IsHiredWorker, IsOver, IsOverWorker, IsOverSession, HasTurns, IsTold, IsToldSession, worker_places, readings_of}
+use Rattle.ce_solve.specs.Actors.{HasRun, HasRunWorker, HasRunSession, IsHiredWorker, IsOver, IsOverWorker, IsOverSession, HasTurns, IsTold, IsToldSession, worker_places, readings_of}
 use Rattle.ce_solve.specs.ActorsInside.{ArePartsFrom, HaveRun, IsHired, IsSeatedSession, AreSessionsFrom, sessions_in}
 use Rattle.ce_solve.specs.SolvedRows.{AreOfSession, AreReadingsFrom}
 use Rattle.ce_live.specs.Sessions.{AreNumbered}
@@ -19,16 +19,6 @@ use Rattle.ce_solve.specs.declared.crew.Actor.{Actor}
 use Rattle.ce_solve.specs.declared.crew.Actor.TheVariants.{Worker as AWorker, Session as ASession}
 use Rattle.ce_solve.proofs.Joins.{all_head, all_tail}
 use Rattle.ce_solve.proofs.Assembling.{all_cons}
-
--- Who was hired can run.
-pub can_run : (b : Board) (u : List ℕ) (t r : ℕ) (xs : List Actor) → All (IsHired b u t r) xs → All (CanRun b) xs
-can_run b u t r [] h k d l = absurd (omega arith)
-can_run b u t r (x ∷ xs) h zero d l = one x (all_head (IsHired b u t r) x xs h)
-  where
-    one : (x : Actor) → IsHired b u t r x → CanRun b x
-    one (AWorker w) h = h.worker
-    one (ASession s) h = h.over.sits
-can_run b u t r (x ∷ xs) h (suc k) d l = can_run b u t r xs (all_tail (IsHired b u t r) x xs h) k d (omega arith)
 
 -- each by its index, so all
 pub have_run : (b : Board) (xs ys : List Actor) → length ys ≡ length xs
@@ -153,12 +143,6 @@ sessions_read b u t r first (ASession s ∷ xs) (y ∷ ys) ran h numbered told =
     let count : suc (sessions_in xs) ≡ sessions_in xs + 1 = omega arith in
     subst (λ (a : Actor). AreReadingsFrom first (sessions_in xs + 1) r (readings_of (a ∷ ys))) (sym ran.0.1)
     (subst (λ (n : ℕ). AreReadingsFrom first n r (readings_of (ASession s' ∷ ys))) count all)
-
-pub length_after : (b : Board) (xs ys : List Actor) → HaveRun b xs ys → length ys ≡ length xs
-length_after b [] [] ran = refl
-length_after b (x ∷ xs) [] ran = absurd ran
-length_after b [] (y ∷ ys) ran = absurd ran
-length_after b (x ∷ xs) (y ∷ ys) ran = let rest = length_after b xs ys ran.1 in omega (arith, rest)
 
 -- Places with the same parts are the same workers' parts.
 pub parts_same : (n w first : ℕ) (ps qs : List Place) → map (λ (p : Place). p.part) qs ≡ map (λ (p : Place). p.part) ps

@@ -8,8 +8,8 @@ use Rattle.ce_rows.specs.declared.act.Act.{Act}
 use Rattle.ce_rows.specs.declared.act.LogEntry.{LogEntry}
 use Rattle.ce_rows.specs.declared.act.Act.TheVariants.{LoadsLow, LoadsHigh, LoadsStop, Stops}
 use Rattle.ce_words.specs.Invariant.{IsGreatest, IsLeast}
-use Rattle.ce_words.specs.Logs.{is_raise, is_lower, is_ask, times, halts, halt, total, by_place, Each, in_part, stores, had, IsPossibleLog}
-use Rattle.ce_words.specs.Steps.{IsSettled}
+use Rattle.ce_words.specs.Logs.{is_raise, is_lower, is_ask, is_stop, times, halts, halt, total, by_place, Each, in_part, stores, had, IsPossibleLog}
+use Rattle.ce_words.specs.Steps.{IsSettled, WasSet}
 use Rattle.ce_words.specs.Views.{view, kept, logged, part}
 use Rattle.ce_words.specs.declared.view.Part.{Part}
 use Rattle.ce_words.specs.declared.view.Place.{Place}
@@ -29,7 +29,7 @@ use Rattle.ce_crew.specs.declared.worker.Worker.{Worker}
 use Rattle.ce_crew.proofs.BestVectors.{times_none, times-append}
 use Rattle.ce_crew.proofs.Grown.{actor_after-append}
 use Rattle.ce_solve.specs.Actors.{IsOver, IsOverWorker, IsTold, IsFirstSeat, HasTurns, places_of, worker_places, joined_all}
-use Rattle.ce_solve.specs.ChaoticRun.{part_of, IsLogOf, IsCertifiedLow, IsCertifiedHigh, IsRun}
+use Rattle.ce_solve.specs.ChaoticRun.{part_of, IsLogOf, IsCertifiedLow, IsCertifiedHigh, IsStopFound, IsStopSet, IsRun}
 use Rattle.ce_solve.specs.declared.crew.Actor.{Actor}
 use Rattle.ce_solve.specs.declared.crew.Actor.TheVariants.{Worker as AWorker, Session as ASession}
 use Rattle.ce_solve.proofs.Joins.{all_head, all_tail}
@@ -146,6 +146,12 @@ module _ (b : Board) (u : List ℕ) (actors : List Actor) (over : All (IsOver b 
   halted_sum : 0 < total (λ (p : Place). halts p.log) places → l ≡ h
   halted_sum many = s.halted (omega (arith, many, sum_is (λ p. halts p.log) nothing_halted))
 
+  -- who found the stop word set, found it set by a worker
+  stop_was_set : WasSet joined → IsStopFound places → IsStopSet places
+  stop_was_set set many =
+      let was = set (omega (arith, many, sum_is (λ p. halts p.log) nothing_halted)) in
+      omega (arith, was, sum_is (λ p. times is_stop 1 p.log) (nothing_offered is_stop refl refl 1))
+
   halt_equal : (before halt : List LogEntry) (log : List LogEntry) → IsHalt halt → log ≡ before ++ halt
       → (0 < halts log → l ≡ h) → (kept run log).low ≤ l → h ≤ (kept run log).high → l ≡ h
   halt_equal before halt log (inl one) is set low high =
@@ -212,16 +218,17 @@ module _ (b : Board) (u : List ℕ) (actors : List Actor) (over : All (IsOver b 
       logs_of turns xs (all_tail (IsOver b u) (ASession x) xs o)
       (all_tail (HasTurns turns) (ASession x) xs t) set low high
 
-  pub is_run : (turns : ℕ) → All (HasTurns turns) actors
+  pub is_run : WasSet joined → (turns : ℕ) → All (HasTurns turns) actors
       → ((k : ℕ) (p : Place) → get_elem? places k ≡ some p → p.part ≡ part_of (length (board_run b).rows)
       (length places) k) → IsRun (board_run b) turns places l h
-  is_run turns t parts =
+  is_run set turns t parts =
       let own : ((k : ℕ) (p : Place) → get_elem? places k ≡ some p → p.part ≡ part_of (length v.run.rows)
       (length places) k) → IsRun v.run turns places l h = λ ps. record {
         parts = ps;
         logs = logs_of turns actors over t halted_sum (at_workers (λ p. (kept run p.log).low ≤ l) s.low_seen)
             (at_workers (λ p. h ≤ (kept run p.log).high) s.high_seen);
         answers = answers_fit;
+        stopped = stop_was_set set;
         greatest = greatest_of_run;
         least = least_of_run;
       } in

@@ -1,5 +1,5 @@
 -- What a run hands out encloses the growth rate of its rows, inside the initial enclosure.
-use Rattle.std.proofs.Common.{◌≤◌, ◌^◌, ◌*◌, ◌+◌, ◌∙◌, ℕ, List, ap, subst, arith}
+use Rattle.std.proofs.Common.{◌≡◌, ◌≤◌, ◌^◌, ◌*◌, ◌+◌, ◌∙◌, ℕ, List, ap, subst, arith}
 use Rattle.std.proofs.Math.Nat.{mul-le-mul_left, pow-le-pow_left}
 use Rattle.ce_cert.proofs.Enclose.{certificate_encloses}
 use Rattle.ce_cert.specs.Quotients.{low_of, high_of}
@@ -41,17 +41,38 @@ module _ (rows : ScaledRows) (rounds turns workers : ℕ) (closing : Closing)
   pub encloses : AreScaledRows rows → EnclosesRows rows closing.evidence.low closing.evidence.high
   encloses are = certificate_encloses rows closing.evidence are h.certificate
 
-  pub inside : (ranks : List ℕ) → AreRows rows.list → IsNumbering rows.list ranks
-      → LiesInside (low_of rows ranks (power_vector rows.list ranks rounds))
-      (high_of rows ranks (power_vector rows.list ranks rounds)) closing.evidence.low closing.evidence.high
-  inside ranks are numbering =
-      let same = numbering_unique rows.list are h.run.ranks ranks h.run_of.numbering numbering in
-      let low = h.run_of.low ∙ ap (λ (r : List ℕ). low_of rows r (power_vector rows.list r rounds)) same in
-      let high = h.run_of.high ∙ ap (λ (r : List ℕ). high_of rows r (power_vector rows.list r rounds)) same in
-      record {
-        from = subst (λ (x : ℕ). x ≤ closing.evidence.low) low h.is_run.greatest.from;
-        to = subst (λ (x : ℕ). closing.evidence.high ≤ x) high h.is_run.least.from;
-      }
+  -- The initial enclosure is the bounds of the vector of power iteration, by any numbering.
+  module _ (ranks : List ℕ) (are : AreRows rows.list) (numbering : IsNumbering rows.list ranks) where
+    abbrev vector : List ℕ
+    vector = power_vector rows.list ranks rounds
+
+    same : h.run.ranks ≡ ranks
+    same = numbering_unique rows.list are h.run.ranks ranks h.run_of.numbering numbering
+
+    low_is : h.run.initial.low ≡ low_of rows ranks vector
+    low_is = h.run_of.low ∙ ap (λ (r : List ℕ). low_of rows r (power_vector rows.list r rounds)) same
+
+    high_is : h.run.initial.high ≡ high_of rows ranks vector
+    high_is = h.run_of.high ∙ ap (λ (r : List ℕ). high_of rows r (power_vector rows.list r rounds)) same
+
+    pub inside : LiesInside (low_of rows ranks vector) (high_of rows ranks vector) closing.evidence.low
+        closing.evidence.high
+    inside = record {
+      from = subst (λ (x : ℕ). x ≤ closing.evidence.low) low_is h.is_run.greatest.from;
+      to = subst (λ (x : ℕ). closing.evidence.high ≤ x) high_is h.is_run.least.from;
+    }
+
+    pub readings_inside : Each (λ (r : Reading). LiesInside (low_of rows ranks vector) (high_of rows ranks vector)
+        r.interval.low r.interval.high) closing.readings
+    readings_inside =
+        Each-more
+        (λ (r : Reading). LiesInside h.run.initial.low h.run.initial.high r.interval.low r.interval.high)
+        (λ (r : Reading). LiesInside (low_of rows ranks vector) (high_of rows ranks vector) r.interval.low
+        r.interval.high)
+        (λ r k. record {
+          from = subst (λ (x : ℕ). x ≤ r.interval.low) low_is k.from;
+          to = subst (λ (x : ℕ). r.interval.high ≤ x) high_is k.to;
+        }) closing.readings h.inside_initial
 
   pub readings_enclose : AreScaledRows rows
       → Each (λ (r : Reading). EnclosesRows rows r.interval.low r.interval.high) closing.readings

@@ -14,7 +14,7 @@ use Rattle.ce_rows.specs.Blocks.{IsRanking, has_rank_of, block_successors, block
 use Rattle.ce_rows.specs.Rows.{ScaledRows, AreScaledRows, AreRows, successors_in}
 use Rattle.ce_rows.specs.declared.row.Row.{Row}
 use Rattle.ce_rows.proofs.Blocks.{entry_at_most, block_sum_at_most}
-use Rattle.ce_vector.specs.PowerIteration.{power_vector}
+use Rattle.ce_vector.specs.PowerIteration.{most_rounds, power_vector}
 use Rattle.ce_vector.proofs.Powers.{length-power_vector, power_round-entry, power_vector-some, power_vector-most, power_vector-below}
 use Rattle.ce_cert.specs.Quotients.{quotient_down, quotient_up, vertices_of, least_quotient, low_of, high_of, least}
 use Rattle.ce_cert.specs.Vectors.{IsVectorOf}
@@ -202,7 +202,7 @@ module _ (rows : ScaledRows) (are : AreScaledRows rows) (ranks : List ℕ) (rank
       (All-map (λ y. y ≤ 2 * 2 ^ rows.exponent) quotient all each) in
       omega (arith, most)
 
-  pub floor_vector : rounds ≤ 36 → IsVectorOf rows (power_vector rows.list ranks rounds)
+  pub floor_vector : rounds ≤ most_rounds → IsVectorOf rows (power_vector rows.list ranks rounds)
   floor_vector few = record {
     each = length-power_vector rows.list ranks rounds;
     positive = power_vector-some rows.list ranks rounds;

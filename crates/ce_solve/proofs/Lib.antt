@@ -7,6 +7,7 @@ pub mod After
 pub mod SolvedRuns
 pub mod NoTurns
 mod LoneLogs
+pub mod LoneHalts
 pub mod LoneRuns
 pub mod LoneClosing
 pub mod NoTurnsClosing

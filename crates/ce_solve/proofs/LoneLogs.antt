@@ -1,26 +1,12 @@
--- Logs of one place: what a halt certifies, and where two logs certify a number first.
-use Rattle.std.proofs.Common.{◌≡◌, ℕ, ◌<◌, inl, inr, Bool, false, List, [], ◌∷◌, ◌++◌}
-use Rattle.std.proofs.Common.{refl, ap, ◌∙◌, arith}
+-- Logs of one place: where two logs certify a number first.
+use Rattle.std.proofs.Common.{◌≡◌, ℕ, ◌<◌, Bool, List, [], ◌∷◌, ◌++◌, refl, ap, arith}
 use mathlib.Core.Logic.{dite}
 use native.Mathlib.Decide.{ℕ_discrete}
 use Rattle.ce_rows.specs.declared.act.Act.{Act}
-use Rattle.ce_rows.specs.declared.act.Act.TheVariants.{LoadsLow, LoadsHigh, LoadsStop, Stops}
 use Rattle.ce_rows.specs.declared.act.LogEntry.{LogEntry}
 use Rattle.ce_words.specs.Logs.{times, offer}
-use Rattle.ce_words.specs.Views.{logged}
 use Rattle.ce_words.specs.declared.view.Place.{Place}
-use Rattle.ce_crew.specs.Turn.{IsHalt}
-use Rattle.ce_crew.proofs.BestVectors.{times-append, times_none}
-
--- A halt certifies nothing.
-pub halt_is_quiet : (is : Act → Bool) → is LoadsStop ≡ false → is LoadsLow ≡ false → is LoadsHigh ≡ false
-    → is Stops ≡ false → (halt : List LogEntry) → IsHalt halt → (c : ℕ) → times is c halt ≡ 0
-halt_is_quiet is a b d e halt (inl set) c =
-    ap (times is c) set ∙ times_none is c (logged LoadsStop 0 1 ∷ []) (a, tt)
-halt_is_quiet is a b d e halt (inr h) c =
-    ap (times is c) h.1 ∙ times_none is c
-    (logged LoadsStop 0 0 ∷ logged LoadsLow 0 h.0 ∷ logged LoadsHigh 0 h.0 ∷ logged Stops 1 1 ∷ [])
-    (a, (b, (d, (e, tt))))
+use Rattle.ce_crew.proofs.BestVectors.{times-append}
 
 -- The first steps of a kind that carry a number stand at one place of what two logs share.
 pub one_first : (is : Act → Bool) (c : ℕ) (xs xs' ys ys' shared halt halt' : List LogEntry) (s s' : LogEntry)

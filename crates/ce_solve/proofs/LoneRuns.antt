@@ -1,4 +1,4 @@
--- A run with one place is determined: its interval, its vectors and its certificate.
+-- A run with one place is determined: its log, its interval, its vectors and its certificate.
 use Rattle.std.proofs.Common.{◌≡◌, ℕ, ◌<◌, ◌≤◌, ◌⊎◌, inl, inr, Bool, List, [], ◌∷◌, ◌++◌}
 use Rattle.std.proofs.Common.{length, refl, sym, ap, ◌∙◌, subst, arith, append-nil}
 use mathlib.Core.Logic.{dite}
@@ -8,23 +8,23 @@ use Rattle.ce_rows.specs.declared.act.Act.{Act}
 use Rattle.ce_rows.specs.declared.act.Act.TheVariants.{Raises, Lowers, LoadsLow, LoadsHigh, LoadsStop}
 use Rattle.ce_rows.specs.declared.act.LogEntry.{LogEntry}
 use Rattle.ce_words.specs.Invariant.{IsGreatest, IsLeast}
-use Rattle.ce_words.specs.Logs.{is_raise, is_lower, times, offer, total, EachFits}
+use Rattle.ce_words.specs.Logs.{is_raise, is_lower, is_stop, times, halts, offer, total, EachFits}
 use Rattle.ce_words.specs.Views.{kept, logged}
 use Rattle.ce_words.specs.declared.view.Part.{Part}
 use Rattle.ce_words.specs.declared.view.Place.{Place}
 use Rattle.ce_words.specs.declared.view.Run.{Run}
 use Rattle.ce_words.proofs.Logs.{times-snoc}
 use Rattle.ce_words.proofs.Seats.{greatest_as, least_as}
-use Rattle.ce_crew.specs.Turn.{IsHalt}
 use Rattle.ce_crew.specs.WorkerLogs.{IsTurns}
 use Rattle.ce_crew.proofs.BestVectors.{times-append}
 use Rattle.ce_solve.specs.ChaoticRun.{IsLogOf, IsRun, IsCertifiedLow, IsCertifiedHigh}
-use Rattle.ce_solve.specs.SameTurns.{AreSameTurns}
 use Rattle.ce_solve.specs.ClosingVectors.{IsClosingLow, IsClosingHigh, IsFirstLowAmong, IsFirstHighAmong}
 use Rattle.ce_solve.proofs.ClosingEnds.{one_offer}
 use Rattle.ce_crew.proofs.LoneSteps.{EachFits-split, IsOffered, IsLoneStep, FitsAlone, lone_steps, one_greatest, one_least}
 use Rattle.ce_crew.proofs.LoneTurns.{one_log, goes_on}
-use Rattle.ce_solve.proofs.LoneLogs.{halt_is_quiet, one_first, never, in_one}
+use Rattle.ce_crew.proofs.WorkerTurns.{halt_silent}
+use Rattle.ce_solve.proofs.LoneHalts.{own_halt, lone_halt}
+use Rattle.ce_solve.proofs.LoneLogs.{one_first, never, in_one}
 
 module _ (run : Run) (turns : ℕ) where
   -- A log of turns, and perhaps of a halt, and the bounds with which its run closed.
@@ -37,7 +37,7 @@ module _ (run : Run) (turns : ℕ) where
     pub log_is : q.log ≡ before ++ halt
     pub no_raise : (c : ℕ) → times is_raise c halt ≡ 0
     pub no_lower : (c : ℕ) → times is_lower c halt ≡ 0
-    pub ends : ((done ≡ turns) × (halt ≡ [])) ⊎ ((done < turns) × (IsHalt halt × (low ≡ high)))
+    pub ends : ((done ≡ turns) × (halt ≡ [])) ⊎ ((done < turns) × ((halt ≡ own_halt low) × (low ≡ high)))
     pub fits : EachFits (FitsAlone run q) [] (before ++ halt)
     pub low_is : IsGreatest run.initial.low (λ c. 0 < times is_raise c before) low
     pub high_is : IsLeast run.initial.high (λ c. 0 < times is_lower c before) high
@@ -49,9 +49,17 @@ module _ (run : Run) (turns : ℕ) where
       let whole = ap (times is c) log in omega (arith, whole, times-append is c before halt, quiet)
 
   module _ (q : Place) (low high : ℕ) (r : IsRun run turns (q ∷ []) low high) where
+    best_low : (before halt : List LogEntry) → q.log ≡ before ++ halt → ((c : ℕ) → times is_raise c halt ≡ 0)
+        → IsGreatest run.initial.low (λ c. 0 < times is_raise c before) low
+    best_low before halt log quiet =
+        greatest_as run.initial.low (IsCertifiedLow (q ∷ [])) (λ c. 0 < times is_raise c before) low
+        (λ c l. subst (λ (k : ℕ). 0 < k) (certified is_raise c q before halt log (quiet c)) l)
+        (λ c l. subst (λ (k : ℕ). 0 < k) (sym (certified is_raise c q before halt log (quiet c))) l) r.greatest
+
     ended_as : (done made : ℕ) (before halt : List LogEntry) → IsTurns run q.part done before made
         → q.log ≡ before ++ halt → ((c : ℕ) → times is_raise c halt ≡ 0) → ((c : ℕ) → times is_lower c halt ≡ 0)
-        → ((done ≡ turns) × (halt ≡ [])) ⊎ ((done < turns) × (IsHalt halt × (low ≡ high))) → HasEnded q.part low high q
+        → ((done ≡ turns) × (halt ≡ [])) ⊎ ((done < turns) × ((halt ≡ own_halt low) × (low ≡ high)))
+        → HasEnded q.part low high q
     ended_as done made before halt turned log raise lower ends = record {
       done = done;
       made = made;
@@ -63,13 +71,15 @@ module _ (run : Run) (turns : ℕ) where
       no_lower = lower;
       ends = ends;
       fits = subst (λ (l : List LogEntry). EachFits (FitsAlone run q) [] l) log r.answers.0;
-      low_is = greatest_as run.initial.low (IsCertifiedLow (q ∷ [])) (λ c. 0 < times is_raise c before) low
-          (λ c l. subst (λ (k : ℕ). 0 < k) (certified is_raise c q before halt log (raise c)) l)
-          (λ c l. subst (λ (k : ℕ). 0 < k) (sym (certified is_raise c q before halt log (raise c))) l) r.greatest;
+      low_is = best_low before halt log raise;
       high_is = least_as run.initial.high (IsCertifiedHigh (q ∷ [])) (λ c. 0 < times is_lower c before) high
           (λ c l. subst (λ (k : ℕ). 0 < k) (certified is_lower c q before halt log (lower c)) l)
           (λ c l. subst (λ (k : ℕ). 0 < k) (sym (certified is_lower c q before halt log (lower c))) l) r.least;
     }
+
+    -- who found the stop word set, had set it
+    set_itself : 0 < halts q.log → 0 < times is_stop 1 q.log
+    set_itself many = let was = r.stopped (omega (arith, many)) in omega (arith, was)
 
     pub ended : HasEnded q.part low high q
     ended = go r.logs.0
@@ -79,9 +89,11 @@ module _ (run : Run) (turns : ℕ) where
             (inl (refl, refl))
         go (inr t) =
             let h = t.2 in
-            ended_as t.0 h.made h.before h.halt h.turned h.log_is
-            (halt_is_quiet is_raise refl refl refl refl h.halt h.halts)
-            (halt_is_quiet is_lower refl refl refl refl h.halt h.halts) (inr (t.1, (h.halts, t.3)))
+            let raise = halt_silent is_raise refl refl refl refl h.halt h.halts in
+            let halt = lone_halt run q q.part t.0 h.made low h.before h.halt h.turned h.log_is r.answers.0
+            (best_low h.before h.halt h.log_is raise) set_itself h.halts in
+            ended_as t.0 h.made h.before h.halt h.turned h.log_is raise
+            (halt_silent is_lower refl refl refl refl h.halt h.halts) (inr (t.1, (halt, t.3)))
 
   at_most : (p : Part) (q : Place) (low high : ℕ) → (e : HasEnded p low high q) → e.done ≤ turns
   at_most p q low high e = elim e.ends [
@@ -143,24 +155,21 @@ module _ (run : Run) (turns : ℕ) where
           let turned = subst (λ (k : ℕ). IsTurns run p k e.before e.made) one_count e.turned in
           (one_log run p q r f.done e.made f.made e.before f.before turned f.turned own.0 other.0).0
 
-      same_turns : AreSameTurns q.log r.log
-      same_turns = record {
-        turns = e.before;
-        end = e.halt;
-        other_end = f.halt;
-        log_is = e.log_is;
-        other_is = f.log_is ∙ ap (λ (l : List LogEntry). l ++ f.halt) (sym one_before);
-        ends = elim e.ends [
-          | inl all ↦ elim f.ends [
-            | inl both ↦ inl (all.1, both.1)
-            | inr halted ↦ absurd (omega (arith, all.0, halted.0, one_count))
+      -- With the same closing bound they are the same log.
+      same_log : low ≡ least → q.log ≡ r.log
+      same_log bound = e.log_is ∙ ((λ i. one_before i ++ halts_agree i) ∙ sym f.log_is)
+        where
+          halts_agree : e.halt ≡ f.halt
+          halts_agree = elim e.ends [
+            | inl all ↦ elim f.ends [
+              | inl both ↦ all.1 ∙ sym both.1
+              | inr halted ↦ absurd (omega (arith, all.0, halted.0, one_count))
+            ]
+            | inr halted ↦ elim f.ends [
+              | inl all ↦ absurd (omega (arith, all.0, halted.0, one_count))
+              | inr both ↦ halted.1.0 ∙ (ap own_halt bound ∙ sym both.1.0)
+            ]
           ]
-          | inr halted ↦ elim f.ends [
-            | inl all ↦ absurd (omega (arith, all.0, halted.0, one_count))
-            | inr both ↦ inr (halted.1.0, both.1.0)
-          ]
-        ];
-      }
 
   -- Two runs with one place each.
   pub record AreTwo (places others : List Place) (low high least most : ℕ) : Type 0 where
@@ -270,9 +279,9 @@ module _ (run : Run) (turns : ℕ) where
             (t.first.no_lower high) (t.second.no_lower high)
             ∙ sym b.first.vector_is)
 
-  pub one_list_of_turns : (q r : Place) (low high least most : ℕ) → IsRun run turns (q ∷ []) low high
-      → IsRun run turns (r ∷ []) least most → AreSameTurns q.log r.log
+  pub one_whole_log : (q r : Place) (low high least most : ℕ) → IsRun run turns (q ∷ []) low high
+      → IsRun run turns (r ∷ []) least most → q.log ≡ r.log
   unfolding are_two
-  one_list_of_turns q r low high least most h k =
+  one_whole_log q r low high least most h k =
       let t = are_two (q ∷ []) (r ∷ []) low high least most refl refl h k in
-      same_turns q.part q r low high least most t.first t.second
+      same_log q.part q r low high least most t.first t.second (one_low (q ∷ []) (r ∷ []) low high least most t)

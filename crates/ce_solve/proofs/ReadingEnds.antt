@@ -1,8 +1,9 @@
--- The ends of readings are initial or certified.
+-- Readings lie inside the initial enclosure, and their ends are initial or certified.
 use Rattle.std.proofs.Common.{◌≡◌, ℕ, ◌<◌, ◌⊎◌, inl, inr, List, [], ◌∷◌, ◌++◌, refl, ◌∙◌, subst, arith}
 use Rattle.ce_rows.specs.declared.act.Act.TheVariants.{LoadsLow, LoadsHigh}
 use Rattle.ce_rows.specs.declared.act.LogEntry.{LogEntry}
 use Rattle.ce_words.specs.Logs.{is_raise, is_lower, is_ask, times, Each, EachFits, AnswersUp, AnswersDown, AnswerFits, IsPossibleLog, had}
+use Rattle.ce_words.specs.Steps.{LiesInside}
 use Rattle.ce_words.specs.Views.{view, kept, logged}
 use Rattle.ce_words.specs.declared.view.Part.{Part}
 use Rattle.ce_words.specs.declared.view.Place.{Place}
@@ -67,7 +68,34 @@ module _ (run : Run) (low_theirs high_theirs count_theirs : ℕ → Type 0) (val
         ends_of ((before ++ a ∷ []) ++ b ∷ []) rs lb hb f.1.1,
       )
 
--- the same of all sessions among actors, among places over which W sums
+  -- Each reading lies inside the initial enclosure.
+  pub inside_of : (before : List LogEntry) (rs : List Reading) → EachFits Fits before (read_log rs)
+      → Each (λ (r : Reading). LiesInside run.initial.low run.initial.high r.interval.low r.interval.high) rs
+  inside_of before [] f = tt
+  inside_of before (r ∷ rs) f =
+      let a = logged LoadsLow 0 r.interval.low in
+      let b = logged LoadsHigh 0 r.interval.high in
+      (record { from = f.0.from; to = f.1.0.from }, inside_of ((before ++ a ∷ []) ++ b ∷ []) rs f.1.1)
+
+pub readings_inside : (run : Run) (W : (Place → ℕ) → ℕ) (actors : List Actor) → Each IsTold actors
+    → Each (IsPossibleLog run W) (places_of actors)
+    → Each (λ (r : Reading). LiesInside run.initial.low run.initial.high r.interval.low r.interval.high)
+    (readings_of actors)
+readings_inside run W [] told logs = tt
+readings_inside run W (AWorker w ∷ actors) told logs = readings_inside run W actors told.1 logs.1
+readings_inside run W (ASession s ∷ actors) told logs =
+    let p : Place = (view s.seat).place in
+    let lt : ℕ → Type 0 = λ c. times is_raise c p.log < W (λ q. times is_raise c q.log) in
+    let ht : ℕ → Type 0 = λ c. times is_lower c p.log < W (λ q. times is_lower c q.log) in
+    let ct : ℕ → Type 0 = λ c. times is_ask c p.log < W (λ q. times is_ask c q.log) in
+    let value : ℕ → ℕ → Type 0 = λ e x. 0 < W (had run e x) in
+    let fits = subst (λ (x : List LogEntry). EachFits (Fits run lt ht ct value p.part) [] x) told.0.log logs.0 in
+    Each-append
+    (λ (r : Reading). LiesInside run.initial.low run.initial.high r.interval.low r.interval.high) s.room.readings
+    (readings_of actors) (inside_of run lt ht ct value p.part [] s.room.readings fits)
+    (readings_inside run W actors told.1 logs.1)
+
+-- What readings end at, for all sessions among actors, among places over which W sums.
 pub readings_end : (run : Run) (W : (Place → ℕ) → ℕ) (L H : ℕ → Type 0) (actors : List Actor)
     → ((c : ℕ) → 0 < W (λ q. times is_raise c q.log) → L c) → ((c : ℕ) → 0 < W (λ q. times is_lower c q.log) → H c)
     → Each IsTold actors → Each (IsPossibleLog run W) (places_of actors)

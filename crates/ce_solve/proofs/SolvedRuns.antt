@@ -90,5 +90,6 @@ solved_is rows rounds turns workers count p run u s h o same all k =
       high_vector = subst (λ (v : List ℕ). IsClosingHigh run run.initial.high v k.places s.certificate.high
           s.certificate.high_vector.items) vector k.high_vector;
       contain = k.contain;
+      inside_initial = k.inside_initial;
       ends = k.ends;
     }

@@ -99,4 +99,6 @@ pub record IsClosingOf (run : Run) (turns workers : ℕ) (beginning : List ℕ) 
       s.certificate.high_vector.items
   pub contain : Each
       (λ (r : Reading). LiesInside r.interval.low r.interval.high s.certificate.low s.certificate.high) s.readings.items
+  pub inside_initial : Each
+      (λ (r : Reading). LiesInside run.initial.low run.initial.high r.interval.low r.interval.high) s.readings.items
   pub ends : Each (λ (r : Reading). HasKnownEnds run places r.interval.low r.interval.high) s.readings.items

@@ -10,7 +10,7 @@ use Rattle.std.specs.Prelude.{◌≡◌, ℕ, ◌+◌, ◌*◌, ◌/◌, ◌<◌
 use mathlib.Core.Option.{some}
 use lib.ListN.{get_elem?}
 use Rattle.ce_words.specs.Invariant.{IsGreatest, IsLeast}
-use Rattle.ce_words.specs.Logs.{is_raise, is_lower, times, total, Each, IsPossibleLog}
+use Rattle.ce_words.specs.Logs.{is_raise, is_lower, is_stop, times, halts, total, Each, IsPossibleLog}
 use Rattle.ce_words.specs.Views.{part}
 use Rattle.ce_words.specs.declared.view.Run.{Run}
 use Rattle.ce_words.specs.declared.view.Part.{Part}
@@ -35,6 +35,13 @@ IsCertifiedLow places low = 0 < total (λ (p : Place). times is_raise low p.log)
 abbrev pub IsCertifiedHigh : List Place → ℕ → Type 0
 IsCertifiedHigh places high = 0 < total (λ (p : Place). times is_lower high p.log) places
 
+-- Some log of these found the stop word set, or set it.
+abbrev pub IsStopFound : List Place → Type 0
+IsStopFound places = 0 < total (λ (p : Place). halts p.log) places
+
+abbrev pub IsStopSet : List Place → Type 0
+IsStopSet places = 0 < total (λ (p : Place). times is_stop 1 p.log) places
+
 -- The logs of the owners of these parts are a run with so many turns to the closing bounds.
 pub record IsRun (run : Run) (turns : ℕ) (places : List Place) (low high : ℕ) : Type 0 where
   -- the parts divide the vector evenly
@@ -44,6 +51,8 @@ pub record IsRun (run : Run) (turns : ℕ) (places : List Place) (low high : ℕ
   -- each load answered a value that its entry had, an own one the last; the bounds and the count of
   -- rescalings answered what was seen, offered and possible
   pub answers : Each (IsPossibleLog run (λ g. total g places)) places
+  -- where a log found the stop word set, a log of the run set it
+  pub stopped : IsStopFound places → IsStopSet places
   -- the closing bounds are the best of the initial enclosure and of all that was certified
   pub greatest : IsGreatest run.initial.low (IsCertifiedLow places) low
   pub least : IsLeast run.initial.high (IsCertifiedHigh places) high

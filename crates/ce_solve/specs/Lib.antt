@@ -1,8 +1,6 @@
--- In reading order: runs as logs, logs of the same turns, the vectors of closing bounds, what a run
--- begins with, what it comes to over rows and for an angle, its limits, its actors, and what hiring,
--- joining and closing keep.
+-- In reading order: runs as logs, the vectors of closing bounds, what a run begins with, what it comes
+-- to over rows and for an angle, its limits, its actors, and what hiring, joining and closing keep.
 pub mod ChaoticRun
-pub mod SameTurns
 pub mod ClosingVectors
 pub mod Prepared
 pub mod SolvedRows

@@ -57,6 +57,8 @@ pub record IsSolved (rows : ScaledRows) (rounds turns workers : ℕ) (c : Closin
       c.evidence.high c.evidence.high_vector
   pub contain : Each
       (λ (r : Reading). LiesInside r.interval.low r.interval.high c.evidence.low c.evidence.high) c.readings
+  pub inside_initial : Each
+      (λ (r : Reading). LiesInside run.initial.low run.initial.high r.interval.low r.interval.high) c.readings
   pub ends : Each (λ (r : Reading). HasKnownEnds run places r.interval.low r.interval.high) c.readings
 
 -- The readings of one session: so many, numbered from 0, and never wider than those before.

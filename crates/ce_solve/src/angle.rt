@@ -4,7 +4,7 @@ ghost use Rattle.std.specs.Result.{IfErr};
 ghost use Rattle.ce_orbit.specs.Orbit.{HasOrbitAbove};
 ghost use Rattle.ce_solve.specs.Limits.{AreWithinLimits};
 ghost use Rattle.ce_solve.specs.SolvedAngle.{IsCause, IsSolutionFor, MayAnswer};
-ghost use Rattle.ce_solve.specs.SolvedRows.{closing_in};
+ghost use Rattle.ce_solve.specs.SolvedRows.{AreReadingsFrom, closing_in};
 
 use crate::collecting::Solved;
 use crate::settings::Settings;
@@ -41,7 +41,9 @@ fn solve_orbit<R: Threads + Sync, G: Gate + Sync>(
     gate: &G,
 ) -> Result<Solved, NoMemory>
     requires { AreWithinLimits settings.now }
-    ensures { IfOk result (λ solved. IsSolutionFor settings.now orbit.now (closing_in solved)) }
+    ensures solved { IfOk result (λ solved. IsSolutionFor settings.now orbit.now (closing_in solved)) }
+    ensures readings { IfOk result (λ solved. AreReadingsFrom 0 settings.now.sessions settings.now.reads
+        solved.readings.items) }
 {
     let rows = rows_of(alloc, orbit)?.with_scale(settings.scale);
     let told = Settings {
@@ -65,6 +67,8 @@ pub fn solve<R: Threads + Sync, G: Gate + Sync>(
 ) -> Result<Answer, SolveError>
     requires { AreWithinLimits settings.now }
     ensures answer { IfOk result (MayAnswer settings.now angle) }
+    ensures readings { IfOk result (λ answer. AreReadingsFrom 0 settings.now.sessions settings.now.reads
+        answer.solved.readings.items) }
     ensures cause { IfErr result (IsCause angle) }
     ensures long { HasOrbitAbove 128 angle → result ≡ Err SolveError.OrbitTooLong }
 {

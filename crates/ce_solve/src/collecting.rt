@@ -228,6 +228,8 @@ pub fn collect(
     ensures told { Each IsTold actors.items }
     ensures contain { Each (λ r. LiesInside r.interval.low r.interval.high
         result.certificate.low result.certificate.high) (readings_of actors.items) }
+    ensures inside_initial { Each (λ r. LiesInside (board_run board).initial.low (board_run board).initial.high
+        r.interval.low r.interval.high) (readings_of actors.items) }
     ensures ends { Each (λ r. HasKnownEnds (board_run board) (worker_places actors.items)
         r.interval.low r.interval.high) (readings_of actors.items) }
 {

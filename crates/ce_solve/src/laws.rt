@@ -6,7 +6,6 @@ ghost use Rattle.ce_comp.specs.Numbering.{IsNumbering};
 ghost use Rattle.ce_rows.specs.Rows.{ScaledRows, AreRows, AreScaledRows, EnclosesRows};
 ghost use Rattle.ce_solve.specs.ChaoticRun.{IsRun};
 ghost use Rattle.ce_solve.specs.ClosingVectors.{IsClosingLow, IsClosingHigh};
-ghost use Rattle.ce_solve.specs.SameTurns.{AreSameTurns};
 ghost use Rattle.ce_solve.specs.SolvedRows.{Closing, IsSolved};
 ghost use Rattle.ce_vector.specs.PowerIteration.{power_vector};
 ghost use Rattle.ce_words.specs.Logs.{Each};
@@ -33,7 +32,7 @@ pub fn no_turns_change_nothing()
 {}
 
 /// What a run hands out encloses the growth rate of its rows, and lies inside their initial
-/// enclosure, which is the bounds of the vector of power iteration. Each reading encloses it too.
+/// enclosure, which is the bounds of the vector of power iteration. So does each reading.
 pub fn solved_runs_enclose()
     ensures encloses { (rows : ScaledRows) (rounds turns workers : ℕ) (closing : Closing) → AreScaledRows rows
         → IsSolved rows rounds turns workers closing
@@ -45,14 +44,18 @@ pub fn solved_runs_enclose()
     ensures readings { (rows : ScaledRows) (rounds turns workers : ℕ) (closing : Closing) → AreScaledRows rows
         → IsSolved rows rounds turns workers closing
         → Each (λ r. EnclosesRows rows r.interval.low r.interval.high) closing.readings }
+    ensures readings_inside { (rows : ScaledRows) (rounds turns workers : ℕ) (ranks : List ℕ) (closing : Closing)
+        → AreRows rows.list → IsNumbering rows.list ranks → IsSolved rows rounds turns workers closing
+        → Each (λ r. LiesInside (low_of rows ranks (power_vector rows.list ranks rounds))
+        (high_of rows ranks (power_vector rows.list ranks rounds)) r.interval.low r.interval.high) closing.readings }
 {}
 
-/// A run with one worker is determined: its turns, the interval, the vectors, and with them the
-/// certificate that is handed out.
+/// A run with one worker is determined: its log, step by step, the interval, the vectors, and with
+/// them the certificate that is handed out.
 pub fn one_worker_has_one_run()
-    ensures turns { (run : Run) (turns : ℕ) (place other : Place) (low high least most : ℕ)
+    ensures log { (run : Run) (turns : ℕ) (place other : Place) (low high least most : ℕ)
         → IsRun run turns (place ∷ []) low high → IsRun run turns (other ∷ []) least most
-        → AreSameTurns place.log other.log }
+        → place.log ≡ other.log }
     ensures low { (run : Run) (turns : ℕ) (places others : List Place) (low high least most : ℕ)
         → length places ≡ 1 → length others ≡ 1
         → IsRun run turns places low high → IsRun run turns others least most → low ≡ least }

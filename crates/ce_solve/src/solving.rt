@@ -30,7 +30,7 @@ use ce_words::{Board, Gate, Part, Seat};
 use std::alloc::Global;
 use std::thread::Threads;
 
-// The board of a run, whose vector starts as the one of power iteration, scaled up.
+/// The board of a run, whose vector starts as the one of power iteration, scaled up.
 pub fn open_board(
     alloc: Global,
     rows: &Rows,
@@ -63,7 +63,7 @@ fn part_for(entries: u32, workers: u32, k: u32) -> Part
     }
 }
 
-// A worker with all its memory, at the upper end of what the first seat still owns.
+/// A worker with all its memory, at the upper end of what the first seat still owns.
 pub fn hire(
     alloc: Global,
     board: &Board,
@@ -136,7 +136,7 @@ fn seat_session(
 ) -> Result<Session, NoMemory>
     requires first { (count : ℕ) × IsFirstBelow board.now first.old 0 count }
     requires workers { settings.now.workers ≤ most_workers }
-    requires number { number < 8 }
+    requires number { number < most_sessions }
     ensures left { IfOk result (λ s. view first.new ≡ cut_left (view first.old) (record { from = 0; to = 0 })) }
     ensures sits { IfOk result (λ s. Sits board.now first.new) }
     ensures seated { IfOk result (IsSeatedSession board.now settings.now.reads) }

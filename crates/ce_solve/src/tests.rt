@@ -1,6 +1,7 @@
 // Whole runs with worked numbers, readings in their order, and actors that run side by side.
 ghost use Rattle.std.specs.Prelude.{◌≤◌, IfOk};
-ghost use Rattle.ce_solve.specs.Limits.{AreWithinLimits};
+ghost use Rattle.ce_vector.specs.PowerIteration.{most_rounds};
+ghost use Rattle.ce_solve.specs.Limits.{AreWithinLimits, most_turns, most_workers, most_sessions, most_reads};
 
 use crate::{Settings, SolveError, Solved, solve};
 use ce_angle::Angle;
@@ -22,12 +23,12 @@ fn told(
     reads: u32,
     exponent: u32,
 ) -> Result<Settings, Fail>
-    requires rounds { rounds ≤ 36 }
-    requires turns { turns ≤ 100000 }
+    requires rounds { rounds ≤ most_rounds }
+    requires turns { turns ≤ most_turns }
     requires some { 1 ≤ workers }
-    requires workers { workers ≤ 16 }
-    requires sessions { sessions ≤ 8 }
-    requires reads { reads ≤ 1000 }
+    requires workers { workers ≤ most_workers }
+    requires sessions { sessions ≤ most_sessions }
+    requires reads { reads ≤ most_reads }
     ensures { IfOk result AreWithinLimits }
 {
     let scale = Scale::new(exponent).ok_or("a scale")?;

@@ -9,11 +9,11 @@ use Rattle.ce_words.specs.declared.view.Run.{Run}
 use Rattle.ce_solve.specs.ChaoticRun.{IsCertifiedLow, IsCertifiedHigh, HasKnownEnds}
 use Rattle.ce_solve.specs.declared.crew.Actor.{Actor}
 use Rattle.ce_words.specs.Seats.{board_run}
-use Rattle.ce_words.specs.Steps.{IsSettled}
+use Rattle.ce_words.specs.Steps.{IsSettled, WasSet, LiesInside}
 use Rattle.ce_words.specs.Views.{view, kept}
 use Rattle.ce_words.specs.declared.view.Place.{Place}
 use Rattle.ce_solve.proofs.ReadingsAround.{readings_around}
-use Rattle.ce_solve.proofs.ReadingEnds.{readings_end}
+use Rattle.ce_solve.proofs.ReadingEnds.{readings_end, readings_inside}
 use Rattle.ce_words.specs.declared.view.View.{View}
 use Rattle.ce_solve.specs.Actors.{IsOver, IsTold, IsFirstSeat, readings_of, places_of, worker_places, joined_all}
 use Rattle.ce_solve.specs.ActorsInside.{AreClosingEnds}
@@ -32,8 +32,9 @@ returns-clause-run c =
     let h = e.result.high in
     let s : IsSettled (joined_all v (places_of xs)) l h =
     subst (λ (x : View). IsSettled x l h) j.ensures.view e.ensures.settled in
+    let set : WasSet (joined_all v (places_of xs)) = subst WasSet j.ensures.view e.ensures.set in
     λ turns t. is_run c.args.board c.args.initial.low_vector.items xs c.requires.over j.ensures.told v c.requires.first
-    c.requires.seat.run l h s turns t c.requires.parts
+    c.requires.seat.run l h s set turns t c.requires.parts
 
 -- the closing bounds are those of the best ends
 low_is : (b : Board) (u : List ℕ) (xs : List Actor) (v w : View) (e : WorkEnd) (l h : ℕ) → All (IsOver b u) xs
@@ -113,6 +114,21 @@ returns-clause-contain c =
     s.low_seen.1)
     (subst (λ (ps : List Place). Each (λ (p : Place). h ≤ (kept v.run p.log).high) (ps ++ places_of xs)) fresh
     s.high_seen.1)
+
+pub returns-clause-inside_initial : goal.returns-clause-inside_initial
+returns-clause-inside_initial c =
+    let j = c.join_all-best in
+    let e = c.close-closed in
+    let v = view c.args.first in
+    let xs = c.args.actors.items in
+    let s : IsSettled (joined_all v (places_of xs)) e.result.low e.result.high =
+    subst (λ (x : View). IsSettled x e.result.low e.result.high) j.ensures.view e.ensures.settled in
+    let W : (Place → ℕ) → ℕ = λ g. by_place g (joined_all v (places_of xs)) in
+    let logs = subst (λ (ps : List Place). Each (IsPossibleLog v.run W) (ps ++ places_of xs)) c.requires.first.joined
+    s.logs.1 in
+    subst (λ (r : Run). Each
+    (λ (q : Reading). LiesInside r.initial.low r.initial.high q.interval.low q.interval.high) (readings_of xs))
+    c.requires.seat.run (readings_inside v.run W xs j.ensures.told logs)
 
 pub returns-clause-ends : goal.returns-clause-ends
 returns-clause-ends c =

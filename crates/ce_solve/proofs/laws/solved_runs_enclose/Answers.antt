@@ -1,4 +1,4 @@
-use Rattle.ce_solve.proofs.Enclosing.{encloses, inside, readings_enclose}
+use Rattle.ce_solve.proofs.Enclosing.{encloses, inside, readings_enclose, readings_inside}
 use Rattle.ce_solve.proofs.laws.solved_runs_enclose.Goals as goal
 
 pub returns-clause-encloses : goal.returns-clause-encloses
@@ -12,3 +12,7 @@ returns-clause-inside c = λ rows rounds turns workers ranks closing are numberi
 pub returns-clause-readings : goal.returns-clause-readings
 returns-clause-readings c = λ rows rounds turns workers closing are h.
     readings_enclose rows rounds turns workers closing h are
+
+pub returns-clause-readings_inside : goal.returns-clause-readings_inside
+returns-clause-readings_inside c = λ rows rounds turns workers ranks closing are numbering h.
+    readings_inside rows rounds turns workers closing h ranks are numbering

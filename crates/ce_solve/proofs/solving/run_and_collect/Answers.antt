@@ -59,6 +59,9 @@ returns-clause-closing g c = λ t r hired.
       contain = subst (λ (rs : List Reading). Each
           (λ (q : Reading). LiesInside q.interval.low q.interval.high c.collect.result.certificate.low
           c.collect.result.certificate.high) rs) (sym e.readings) e.contain;
+      inside_initial = subst (λ (rs : List Reading). Each
+          (λ (q : Reading). LiesInside (board_run c.args.board).initial.low (board_run c.args.board).initial.high
+          q.interval.low q.interval.high) rs) (sym e.readings) e.inside_initial;
       ends = subst (λ (rs : List Reading). Each
           (λ (q : Reading). HasKnownEnds (board_run c.args.board)
           (worker_places (with_items c.args.actors news).items) q.interval.low q.interval.high) rs)

@@ -10,11 +10,12 @@ use Rattle.ce_lines.specs.declared.byte_reader.ByteReader.{ByteReader}
 use Rattle.ce_lines.specs.declared.line_reader.LineReader.{LineReader}
 use Rattle.ce_port.specs.ReadAll.{Gave}
 use Rattle.ce_port.specs.Sink.{Rose}
+use Rattle.ce_desk.proofs.Answered.{answered_long, answered_fault}
 use Rattle.ce_desk.proofs.Ended.{consumed_known}
 use Rattle.ce_desk.proofs.NoQuit.{no_quit_answered}
 use Rattle.ce_desk.proofs.OneMore.{rose_since}
 use Rattle.ce_desk.specs.Desk.{Desk}
-use Rattle.ce_desk.specs.Served.{ServedAll, ServedSome, IsTooLong, stop_of}
+use Rattle.ce_desk.specs.Served.{ServedAll, ServedSome, IsTooLong, AnsweredEach, AnsweredAhead, stop_of}
 use Rattle.ce_desk.specs.ServedInside.{at_start, HasServed}
 use Rattle.ce_desk.specs.Talks.{Streams, streams, IsLater, HasEnded, IsNext, IsGood, IsSpeechEnd}
 use Rattle.ce_desk.specs.declared.serving.DeskEnd.{DeskEnd}
@@ -172,6 +173,8 @@ module _ {S O : Type 0} (left : S → Option (List ℕ)) (read_faults : S → �
           (subst (λ (y : O). ServedAll rounds exponent (left source) now.left (taken out) (taken y)) (sym out_is) all);
       part = λ differs. absurd (differs stop);
       too_long = λ s. absurd (done_not_long e.stop stop s);
+      answered = λ s. absurd (done_not_long e.stop stop s);
+      answered_ahead = λ s. absurd (done_not_read e.stop stop s);
       read_fault = λ s. absurd (done_not_read e.stop stop s);
       write_fault = λ s. absurd (done_not_write e.stop stop s);
       read = read_on;
@@ -193,6 +196,8 @@ module _ {S O : Type 0} (left : S → Option (List ℕ)) (read_faults : S → �
       done = λ s. absurd (stop_not_done NoMemory (sym stop ∙ s));
       part = λ differs. some_served some;
       too_long = λ s. absurd (starved_not_long (sym stop ∙ s));
+      answered = λ s. absurd (starved_not_long (sym stop ∙ s));
+      answered_ahead = λ s. absurd (starved_not_read (sym stop ∙ s));
       read_fault = λ s. absurd (starved_not_read (sym stop ∙ s));
       write_fault = λ s. absurd (starved_not_write (sym stop ∙ s));
       read = read_on;
@@ -225,6 +230,29 @@ module _ {S O : Type 0} (left : S → Option (List ℕ)) (read_faults : S → �
     so_too_long one (inr ended) =
         subst (λ (x : S). IsTooLong (left source) (left x)) (sym same_source) (too_long (one ended.0.2) ended.0)
 
+    -- nothing was written since the talk ended
+    same_streams : u.out ≡ t.out → (P : Option (List ℕ) → Option (List ℕ) → Type 0) → P now.left now.taken
+        → P (left e.source) (taken e.out)
+    same_streams same P p =
+        subst (λ (x : S). P (left x) (taken e.out)) (sym same_source)
+        (subst (λ (y : O). P now.left (taken y)) (sym (out_is ∙ same)) p)
+
+    so_answered : (t.lines.bytes.given ≡ 2 ^ 20 + 1 → length (ahead t.lines.bytes) ≡ 1) → EndedSo InputTooLong
+        → AnsweredEach rounds exponent 1 (left source) (left e.source) (taken out) (taken e.out)
+    so_answered one (inl speech) = absurd speech
+    so_answered one (inr ended) =
+        same_streams ended.1
+        (λ (l o : Option (List ℕ)). AnsweredEach rounds exponent 1 (left source) l (taken out) o)
+        (answered_long left read_faults taken write_faults rounds exponent source out t desk (one ended.0.2) ended.0)
+
+    so_answered_ahead : length (ahead t.lines.bytes) ≤ 512 → EndedSo ReadFault
+        → AnsweredAhead rounds exponent (left source) (left e.source) (taken out) (taken e.out)
+    so_answered_ahead few (inl speech) = absurd speech
+    so_answered_ahead few (inr ended) =
+        same_streams ended.1
+        (λ (l o : Option (List ℕ)). AnsweredAhead rounds exponent (left source) l (taken out) o)
+        (answered_fault left read_faults taken write_faults rounds exponent source out t desk few ended.0)
+
     so_read : EndedSo ReadFault → Rose (read_faults source) (read_faults e.source)
     so_read (inl speech) = absurd speech
     so_read (inr ended) = subst (λ (x : S). Rose (read_faults source) (read_faults x)) (sym same_source) ended.0.2
@@ -241,15 +269,17 @@ module _ {S O : Type 0} (left : S → Option (List ℕ)) (read_faults : S → �
         → (fault : Fault) → e.stop ≡ stop_of fault
         → (IsGood end → IsSpeechEnd (write_faults t.out) (write_faults u.out) (Failed fault))
         → ((IsGood end → ⊥) → (Failed fault ≡ end) × (u.out ≡ t.out))
-        → (t.lines.bytes.given ≡ 2 ^ 20 + 1 → length (ahead t.lines.bytes) ≡ 1)
+        → (t.lines.bytes.given ≡ 2 ^ 20 + 1 → length (ahead t.lines.bytes) ≡ 1) → length (ahead t.lines.bytes) ≤ 512
         → ServedSome rounds exponent (left source) now.left (taken out) (taken u.out)
         → HasServed left read_faults taken write_faults rounds exponent source out e
-    fault_served end h fault stop cut same one some =
+    fault_served end h fault stop cut same one few some =
         let so = ended_so end h fault cut same in
         record {
           done = λ s. absurd (stop_not_done fault (sym stop ∙ s));
           part = λ differs. some_served some;
           too_long = λ s. so_too_long one (so InputTooLong (is_too_long fault (sym stop ∙ s)));
+          answered = λ s. so_answered one (so InputTooLong (is_too_long fault (sym stop ∙ s)));
+          answered_ahead = λ s. so_answered_ahead few (so ReadFault (is_read fault (sym stop ∙ s)));
           read_fault = λ s. so_read (so ReadFault (is_read fault (sym stop ∙ s)));
           write_fault = λ s. so_write (so WriteFault (is_write fault (sym stop ∙ s)));
           read = read_on;

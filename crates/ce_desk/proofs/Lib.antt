@@ -12,6 +12,7 @@ mod NoQuit
 mod Beside
 mod Dealing
 mod Closings
+mod Answered
 mod Concluded
 mod Stopped
 mod Hiring

@@ -19,7 +19,7 @@ use Rattle.ce_words.specs.Seats.{board_run}
 use Rattle.ce_words.specs.Views.{rows_of}
 use Rattle.ce_desk.proofs.Slots.{at_or_below}
 use Rattle.ce_desk.specs.Cases.{IsOpenSlot, IsOpenCase, AreOpenSlots}
-use Rattle.ce_desk.specs.Desk.{Slot, Desk, IsOpenCause, IsFirstCause, IsLateIfOpen, OpensInTime}
+use Rattle.ce_desk.specs.Desk.{Slot, Desk, early_desk, IsOpenCause, IsFirstCause, IsLateIfOpen, OpensInTime}
 use Rattle.ce_desk.specs.DeskText.{IsReply, opened_text, refused_text}
 use Rattle.ce_desk.specs.Opening.{HasOpened, HasRoom}
 use Rattle.ce_desk.specs.declared.case.Case.{Case}
@@ -108,9 +108,6 @@ has_opened settings typed turns number old new angle orbit o is of places few ca
           (case.behind slot refl refl refl))));
     }
 
-abbrev pub early_desk : List Slot → Desk
-early_desk slots = record { slots = slots; late = false }
-
 pub opens_reply : (settings : DeskSettings) (typed : Result Fraction AngleError) (turns count : ℕ) (old new : Slots)
     (told : Fraction × Interval) (slots : List Slot)
     (h : HasOpened settings typed turns old new told) → length slots ≡ length old.cases.items → HasRoom new
@@ -152,7 +149,7 @@ open_cause typed turns opened slots c h same (Some text) asks =
     (subst (λ (t : Result Fraction AngleError). IsOpenCause opened t c) asks.2 h))
 
 -- what does not open an angle is not late
-pub not_open : (asked : Option Asked) (slots : List Slot) → IsLateIfOpen asked (record { slots = []; late = false })
+pub not_open : (asked : Option Asked) (slots : List Slot) → IsLateIfOpen asked (early_desk [])
     → IsLateIfOpen asked (early_desk slots)
 not_open None slots h = tt
 not_open (Some (Open angle turns)) slots h = h

@@ -121,6 +121,7 @@ module _ {S O : Type 0} (left : S → Option (List ℕ)) (read_faults : S → �
   module _ (desk : Desk) (early : desk.late ≡ false) (next : Result ℕ TalkEnd)
       (h : IsUnderWay left read_faults taken write_faults rounds exponent source out t next desk)
       (one : t.lines.bytes.given ≡ 2 ^ 20 + 1 → length (ahead t.lines.bytes) ≡ 1)
+      (few : length (ahead t.lines.bytes) ≤ 512)
       (e : DeskEnd S O) (source_is : e.source ≡ t.lines.bytes.source) (out_is : e.out ≡ t.out) where
     early_some : ServedSome rounds exponent (left source) now.left (taken out) now.taken
     early_some = next_some left read_faults taken write_faults rounds exponent source out t desk []
@@ -134,7 +135,7 @@ module _ {S O : Type 0} (left : S → Option (List ℕ)) (read_faults : S → �
         (Failed fault) (subst
         (λ (n : Result ℕ TalkEnd). IsUnderWay left read_faults taken write_faults rounds
         exponent source out t n desk) is h)
-        fault stop (λ good. absurd good) (λ bad. (refl, refl)) one early_some
+        fault stop (λ good. absurd good) (λ bad. (refl, refl)) one few early_some
     stopped_served fault stop (inr is) =
         starved_served left read_faults taken write_faults rounds exponent source out t desk
         (next_later rounds exponent start next desk t.count now h) t refl (omega arith) e source_is out_is

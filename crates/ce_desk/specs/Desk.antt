@@ -29,8 +29,12 @@ pub record Desk : Type 0 where
   pub slots : List Slot
   pub late : Bool
 
+-- a desk in its opening
+abbrev pub early_desk : List Slot → Desk
+early_desk slots = record { slots = slots; late = false }
+
 abbrev pub empty_desk : Desk
-empty_desk = record { slots = []; late = false }
+empty_desk = early_desk []
 
 abbrev pub most_slots : ℕ
 most_slots = 16

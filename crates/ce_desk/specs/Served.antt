@@ -6,7 +6,8 @@ use Rattle.ce_lines.specs.Lines.{TookLine, TookLines, TookPart}
 use Rattle.ce_port.specs.ReadAll.{Gave}
 use Rattle.ce_port.specs.Sink.{GrewBy}
 use Rattle.ce_port.specs.WriteAll.{GrewByPrefix}
-use Rattle.ce_desk.specs.DeskText.{IsDeskText, IsOpeningText}
+use Rattle.ce_desk.specs.Desk.{Desk, empty_desk}
+use Rattle.ce_desk.specs.DeskText.{AreReplies, IsDeskText, IsOpeningText}
 use Rattle.ce_desk.specs.declared.talk.Fault.{Fault}
 use Rattle.ce_desk.specs.declared.talk.Fault.TheVariants.{InputTooLong, Read, Write, NoMemory}
 use Rattle.ce_desk.specs.declared.serving.DeskStop.{DeskStop}
@@ -65,3 +66,27 @@ ServedSome rounds exponent left left_after taken taken_after =
     (lines : List (Option (List ℕ))) × (text : List ℕ) × TookSome left left_after lines
     × (((quits : Bool) × IsDeskText rounds exponent lines quits text) ⊎ IsOpeningText rounds exponent lines text)
     × GrewByPrefix taken taken_after text
+
+-- Reads came to no good end: a source gave lines, then bytes of a line whose end did not come, and then so many bytes
+-- that nobody took. Each of the lines was answered whole, and nothing else was written, no closing line either.
+pub record AnsweredEach (rounds exponent beyond : ℕ)
+    (left left_after taken taken_after : Option (List ℕ)) : Type 0 where
+  pub lines : List (Option (List ℕ))
+  pub between : Option (List ℕ)
+  pub took : TookLines left between lines
+  pub after : Option (List ℕ)
+  pub rest : TookPart between after
+  pub more : Gave beyond after left_after
+  pub desk : Desk
+  pub text : List ℕ
+  pub replies : AreReplies rounds exponent 1 empty_desk lines desk text
+  pub grew : GrewBy taken taken_after text
+
+-- the most bytes that stand ahead of a line
+abbrev pub most_ahead : ℕ
+most_ahead = 512
+
+-- The same, and no more bytes stood ahead than may.
+abbrev pub AnsweredAhead : ℕ → ℕ → Option (List ℕ) → Option (List ℕ) → Option (List ℕ) → Option (List ℕ) → Type 0
+AnsweredAhead rounds exponent left left_after taken taken_after =
+    (beyond : ℕ) × (beyond ≤ most_ahead) × AnsweredEach rounds exponent beyond left left_after taken taken_after

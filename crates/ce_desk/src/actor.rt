@@ -1,4 +1,5 @@
 // Session and crew side by side.
+ghost use Rattle.ce_desk.specs.Desk.{most_slots};
 ghost use Rattle.std.specs.Prelude.{◌≡◌, ◌≤◌, ◌<◌, ◌∷◌, ℕ, List, All, length, slice_index_or};
 ghost use Rattle.ce_desk.specs.Actors.{CanRun, HasRun, HasRunSession, HaveRunCrews};
 ghost use Rattle.ce_desk.specs.declared.actor.Actor.TheVariants.{Session as ASession};
@@ -27,7 +28,7 @@ fn run_one<S: Source, O: Sink, G: Gate>(
     gate: &G,
 )
     requires actor { CanRun cases.now actor.old }
-    requires few { length cases.now ≤ 16 }
+    requires few { length cases.now ≤ most_slots }
     ensures { HasRun S.left S.faults O.taken O.faults cases.now actor.old actor.new }
 {
     match actor {
@@ -45,7 +46,7 @@ fn run_actors<R: Threads + Sync, S: Source + Send, O: Sink + Send, G: Gate + Syn
     gate: &G,
 )
     requires actors { All (CanRun cases.now) actors.old }
-    requires few { length cases.now ≤ 16 }
+    requires few { length cases.now ≤ most_slots }
     ensures { (i : ℕ) (d : Actor S O) → i < length actors.old
         → HasRun S.left S.faults O.taken O.faults cases.now
         (slice_index_or actors.old i d) (slice_index_or actors.new i d) }
@@ -75,12 +76,15 @@ pub(crate) fn run_beside<
     actors: Vec<Actor<S, O>>,
     gate: &G,
 ) -> (Session<S, O>, Vec<Actor<S, O>>)
-    requires first { (s : Session S O) × (crews : List (Actor S O)) × (actors.items ≡ ASession s ∷ crews) }
+    requires first { (s : Session S O) × (crews : List (Actor S O))
+        × (actors.items ≡ ASession s ∷ crews) }
     requires run { All (CanRun cases.now) actors.items }
-    requires few { length cases.now ≤ 16 }
-    ensures session { (s : Session S O) (crews : List (Actor S O)) → actors.items ≡ ASession s ∷ crews
+    requires few { length cases.now ≤ most_slots }
+    ensures session { (s : Session S O) (crews : List (Actor S O))
+        → actors.items ≡ ASession s ∷ crews
         → HasRunSession S.left S.faults O.taken O.faults cases.now s result.0 }
-    ensures crews { (s : Session S O) (crews : List (Actor S O)) → actors.items ≡ ASession s ∷ crews
+    ensures crews { (s : Session S O) (crews : List (Actor S O))
+        → actors.items ≡ ASession s ∷ crews
         → HaveRunCrews cases.now crews result.1.items }
 {
     let mut actors = actors;

@@ -1,4 +1,5 @@
 // An opened angle.
+ghost use Rattle.ce_solve.specs.Limits.{most_turns};
 ghost use Rattle.std.specs.Prelude.{◌≡◌, ◌≤◌, IfOk};
 ghost use Rattle.ce_desk.specs.Cases.{IsOpenCase};
 
@@ -42,7 +43,7 @@ pub(crate) fn open_case(
     turns: u32,
 ) -> Result<Opened, NoMemory>
     requires rounds { rounds ≤ 36 }
-    requires turns { turns ≤ 100000 }
+    requires turns { turns ≤ most_turns }
     ensures { IfOk result (IsOpenCase rows rounds turns) }
 {
     let prepared = prepare(alloc, &rows, rounds)?;

@@ -23,7 +23,8 @@ pub struct Closing {
 
 // Joins the worker's seat, and then loads the bounds, which nobody changes any more.
 fn close_slot(board: &Board, first: &mut Seat, worker: Worker) -> Closing
-    requires slot { (slot : Slot) × IsFirstOf board.now slot first.old × IsDoneFor board.now slot worker }
+    requires slot { (slot : Slot) × IsFirstOf board.now slot first.old
+        × IsDoneFor board.now slot worker }
     ensures { (slot : Slot) → IsFirstOf board.now slot first.old
         → IsDoneFor board.now slot worker → Closes slot result }
 {

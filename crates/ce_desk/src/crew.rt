@@ -66,7 +66,8 @@ impl Crew {
         requires there { slot < length self.old.workers.items }
         requires some { (worker : Worker)
             × ((d : Option Worker) → slice_index_or self.old.workers.items slot d ≡ Some worker) }
-        ensures worker { (d : Option Worker) → slice_index_or self.old.workers.items slot d ≡ Some result }
+        ensures worker { (d : Option Worker)
+            → slice_index_or self.old.workers.items slot d ≡ Some result }
         ensures rest { self.new.workers.items ≡ slice_set self.old.workers.items slot None }
     {
         let Some(worker) = self.workers[slot].take() else {

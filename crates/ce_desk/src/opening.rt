@@ -1,4 +1,5 @@
 // The opening: angles are opened, until a line reads a slot or the lines are at their end.
+ghost use Rattle.ce_solve.specs.Limits.{most_turns};
 ghost use Rattle.std.specs.Prelude.{◌≡◌, ◌≤◌, ◌<◌, ◌++◌, [], ◌∷◌, ℕ, List, false, Some, IfOk, Ok};
 ghost use Rattle.std.specs.Prelude.{Err, length, vec_capacity};
 ghost use Rattle.std.specs.Option.{IfSome, IfNone};
@@ -7,7 +8,7 @@ ghost use Rattle.ce_lines.specs.Bytes.{room_left};
 ghost use Rattle.ce_lines.specs.declared.asked.Asked.TheVariants.{Open as AskedOpen};
 ghost use Rattle.ce_thurston.specs.Indices.{rows_at};
 ghost use Rattle.ce_desk.specs.Cases.{IsOpenCase, AreOpenSlots};
-ghost use Rattle.ce_desk.specs.Desk.{Slot, Desk, IsOpenCause, IsLateIfOpen};
+ghost use Rattle.ce_desk.specs.Desk.{Slot, Desk, IsOpenCause, IsLateIfOpen, early_desk};
 ghost use Rattle.ce_desk.specs.Talks.{Streams, streams, IsTalk, HasTalked, HasHeard, HasEnded};
 ghost use Rattle.ce_desk.specs.Talks.{IsNext, IsAfterLine};
 
@@ -45,7 +46,7 @@ fn open_orbit(
     turns: u32,
 ) -> Result<Opened, NoMemory>
     requires rounds { settings.now.rounds ≤ 36 }
-    requires turns { turns ≤ 100000 }
+    requires turns { turns ≤ most_turns }
     ensures { IfOk result
         (IsOpenCase (rows_at orbit.now settings.now.scale) settings.now.rounds turns) }
 {
@@ -58,7 +59,7 @@ fn open_orbit(
 // The angle that a line is to open, and the granted turns, where it is to open one.
 fn to_open(asked: &Option<Asked>) -> Option<(Result<Angle, AngleError>, u32)>
     ensures some { IfSome result (λ asks. asked.now ≡ Some (AskedOpen asks.0 asks.1)) }
-    ensures none { IfNone result (IsLateIfOpen asked.now (record { slots = []; late = false })) }
+    ensures none { IfNone result (IsLateIfOpen asked.now (early_desk [])) }
 {
     match asked {
         Some(Asked::Open { angle, turns }) => Some((*angle, *turns)),
@@ -112,7 +113,7 @@ impl Slots {
     ) -> Result<(Angle, Interval), Cause>
         requires room { HasRoom self.old }
         requires rounds { settings.now.rounds ≤ 36 }
-        requires turns { turns ≤ 100000 }
+        requires turns { turns ≤ most_turns }
         ensures room { HasRoom self.new }
         ensures opened { IfOk result (HasOpened settings.now angle turns self.old self.new) }
         ensures cause { IfErr result (IsOpenCause (length self.old.cases.items) angle) }
@@ -155,7 +156,7 @@ impl Slots {
     ) -> Result<(), TalkEnd>
         requires room { HasRoom self.old }
         requires rounds { settings.now.rounds ≤ 36 }
-        requires turns { turns ≤ 100000 }
+        requires turns { turns ≤ most_turns }
         requires talk { IsTalk talk.old }
         ensures room { HasRoom self.new }
         ensures lines { talk.new.lines ≡ talk.old.lines }
@@ -164,18 +165,15 @@ impl Slots {
         ensures answered { (start : Streams) (slots : List Slot)
             → AreOpenSlots self.old.cases.items self.old.firsts.items self.old.workers.items slots
             → HasHeard settings.now.rounds settings.now.scale start (Some (AskedOpen angle turns))
-            (record { slots = slots; late = false })
-            talk.old.count (streams S.left S.faults O.taken O.faults talk.old)
+            (early_desk slots) talk.old.count (streams S.left S.faults O.taken O.faults talk.old)
             → (after : List Slot)
             × AreOpenSlots self.new.cases.items self.new.firsts.items self.new.workers.items after
             × IfOk result
             (λ _. HasTalked settings.now.rounds settings.now.scale start
-            (record { slots = after; late = false })
-            talk.new.count (streams S.left S.faults O.taken O.faults talk.new))
+            (early_desk after) talk.new.count (streams S.left S.faults O.taken O.faults talk.new))
             × IfErr result
             (λ end. HasEnded settings.now.rounds settings.now.scale start end
-            (record { slots = after; late = false })
-            (streams S.left S.faults O.taken O.faults talk.new)) }
+            (early_desk after) (streams S.left S.faults O.taken O.faults talk.new)) }
     {
         let slot = self.count();
         match self.open(alloc, settings, angle, turns) {
@@ -200,18 +198,18 @@ impl Slots {
         requires talk { IsTalk talk.old }
         ensures room { HasRoom self.new }
         ensures talk { IsTalk talk.new }
-        ensures there { IfOk result (λ found. IfSome found (λ slot. slot < length self.new.cases.items)) }
-        ensures fewer { IfOk result (λ _. room_left talk.new.lines.bytes < room_left talk.old.lines.bytes) }
+        ensures there { IfOk result
+            (λ found. IfSome found (λ slot. slot < length self.new.cases.items)) }
+        ensures fewer { IfOk result
+            (λ _. room_left talk.new.lines.bytes < room_left talk.old.lines.bytes) }
         ensures after { (start : Streams) (slots : List Slot)
             → AreOpenSlots self.old.cases.items self.old.firsts.items self.old.workers.items slots
             → HasTalked settings.now.rounds settings.now.scale start
-            (record { slots = slots; late = false })
-            talk.old.count (streams S.left S.faults O.taken O.faults talk.old)
+            (early_desk slots) talk.old.count (streams S.left S.faults O.taken O.faults talk.old)
             → (after : List Slot)
             × AreOpenSlots self.new.cases.items self.new.firsts.items self.new.workers.items after
             × IsAfterLine settings.now.rounds settings.now.scale start result
-            (record { slots = after; late = false })
-            talk.new.count (streams S.left S.faults O.taken O.faults talk.new) }
+            (early_desk after) talk.new.count (streams S.left S.faults O.taken O.faults talk.new) }
     {
         let asked = talk.hear()?;
         if quits(&asked) {
@@ -247,13 +245,11 @@ impl Slots {
         ensures next { (start : Streams) (slots : List Slot)
             → AreOpenSlots self.old.cases.items self.old.firsts.items self.old.workers.items slots
             → HasTalked settings.now.rounds settings.now.scale start
-            (record { slots = slots; late = false })
-            talk.old.count (streams S.left S.faults O.taken O.faults talk.old)
+            (early_desk slots) talk.old.count (streams S.left S.faults O.taken O.faults talk.old)
             → (after : List Slot)
             × AreOpenSlots self.new.cases.items self.new.firsts.items self.new.workers.items after
             × IsNext settings.now.rounds settings.now.scale start result
-            (record { slots = after; late = false })
-            talk.new.count (streams S.left S.faults O.taken O.faults talk.new) }
+            (early_desk after) talk.new.count (streams S.left S.faults O.taken O.faults talk.new) }
     {
         loop {
             if let Some(slot) = self.take_line(alloc, settings, talk)? {

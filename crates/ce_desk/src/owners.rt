@@ -1,4 +1,5 @@
 // Which actor of the crew owns which workers.
+ghost use Rattle.ce_solve.specs.Limits.{most_workers};
 ghost use Rattle.std.specs.Prelude.{◌≡◌, ◌<◌, ◌≤◌, ◌+◌, ◌%◌, ℕ, IfOk, length, vec_capacity};
 ghost use Rattle.ce_desk.specs.Crews.{AreIdle, AreCrewsOf, HasHandedOut, HaveDealt, Owns};
 ghost use Rattle.ce_desk.specs.Crews.{HasTakenBack};
@@ -15,7 +16,7 @@ pub(crate) fn idle_crews<S: Drop, O: Drop>(
     slots: usize,
     count: usize,
 ) -> Result<Vec<Actor<S, O>>, NoMemory>
-    requires few { count ≤ 16 }
+    requires few { count ≤ most_workers }
     ensures { IfOk result
         (λ crews. AreIdle slots count crews.items × (count + 1 ≤ vec_capacity crews)) }
 {

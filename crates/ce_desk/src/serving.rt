@@ -1,4 +1,5 @@
 // A whole desk.
+ghost use Rattle.ce_solve.specs.Limits.{most_workers};
 ghost use Rattle.std.specs.Prelude.{◌≡◌, ◌≢◌, ◌<◌, ◌≤◌, [], ℕ, List, false, IfOk, Result, Err, length};
 ghost use Rattle.std.specs.Prelude.{vec_capacity};
 ghost use Rattle.std.specs.Option.{IfSome};
@@ -6,10 +7,11 @@ ghost use Rattle.ce_port.specs.Sink.{Rose};
 ghost use Rattle.ce_desk.specs.Actors.{IsSession};
 ghost use Rattle.ce_desk.specs.Cases.{AreFirsts, AreOpenSlots};
 ghost use Rattle.ce_desk.specs.Crews.{AreHired};
-ghost use Rattle.ce_desk.specs.Desk.{Slot, Desk};
+ghost use Rattle.ce_desk.specs.Desk.{Slot, Desk, most_slots};
 ghost use Rattle.ce_desk.specs.DeskText.{AllClose};
 ghost use Rattle.ce_desk.specs.Opening.{HasRoom};
-ghost use Rattle.ce_desk.specs.Served.{ServedAll, ServedSome, IsTooLong, stop_of};
+ghost use Rattle.ce_desk.specs.Served.{ServedAll, ServedSome, IsTooLong, AnsweredEach};
+ghost use Rattle.ce_desk.specs.Served.{AnsweredAhead, stop_of};
 ghost use Rattle.ce_desk.specs.ServedInside.{StopsBy, HasBegun, IsUnderWay, IsGoingOn};
 ghost use Rattle.ce_desk.specs.ServedInside.{HasTalkEnded, HasServed};
 ghost use Rattle.ce_desk.specs.Talks.{IsTalk};
@@ -77,7 +79,7 @@ fn conclude<S: Source, O: Sink>(
     end: TalkEnd,
     closings: Vec<Closing>,
 ) -> DeskEnd<S, O>
-    requires few { length closings.items ≤ 16 }
+    requires few { length closings.items ≤ most_slots }
     ensures { (rounds exponent : ℕ) (source : S) (out : O) (desk : Desk)
         → HasTalkEnded S.left S.faults O.taken O.faults rounds exponent source out talk end desk
         → AllClose desk.slots closings.items
@@ -113,7 +115,7 @@ fn run_and_close<R: Threads + Sync, S: Source + Send + Drop, O: Sink + Send + Dr
     gate: &G,
 ) -> DeskEnd<S, O>
     requires session { IsSession cases.items session }
-    requires few { length cases.items ≤ 16 }
+    requires few { length cases.items ≤ most_slots }
     requires some { 0 < length crews.items }
     requires room { length crews.items < vec_capacity crews }
     requires closings { (closings.items ≡ []) × (length cases.items ≤ vec_capacity closings) }
@@ -173,7 +175,7 @@ fn hire_and_run<R: Threads + Sync, S: Source + Send + Drop, O: Sink + Send + Dro
     gate: &G,
 ) -> DeskEnd<S, O>
     requires some { 0 < count }
-    requires few { count ≤ 16 }
+    requires few { count ≤ most_workers }
     requires room { HasRoom slots }
     requires talk { IsTalk talk }
     requires there { IfOk next (λ slot. slot < length slots.cases.items) }
@@ -211,7 +213,7 @@ fn open_and_run<R: Threads + Sync, S: Source + Send + Drop, O: Sink + Send + Dro
     gate: &G,
 ) -> DeskEnd<S, O>
     requires rounds { settings.now.rounds ≤ 36 }
-    requires workers { (1 ≤ settings.now.workers) × (settings.now.workers ≤ 16) }
+    requires workers { (1 ≤ settings.now.workers) × (settings.now.workers ≤ most_workers) }
     requires talk { IsTalk talk }
     requires begun { (source : S) × (out : O)
         × HasBegun S.left S.faults O.taken O.faults settings.now.rounds
@@ -237,6 +239,9 @@ fn open_and_run<R: Threads + Sync, S: Source + Send + Drop, O: Sink + Send + Dro
 
 /// Opens the angles that lines ask for, and answers lines about them while a standing crew refines
 /// their bounds. At `quit` or the end of the input the closing lines follow.
+///
+/// A line is answered before the next is taken: whenever reads come to no good end, the replies to
+/// all lines that were taken stand whole on the sink, and nothing else does.
 pub fn serve<R: Threads + Sync, S: Source + Send + Drop, O: Sink + Send + Drop, G: Gate + Sync>(
     rt: &R,
     alloc: Global,
@@ -246,7 +251,7 @@ pub fn serve<R: Threads + Sync, S: Source + Send + Drop, O: Sink + Send + Drop, 
     gate: &G,
 ) -> DeskEnd<S, O>
     requires rounds { settings.rounds ≤ 36 }
-    requires workers { (1 ≤ settings.workers) × (settings.workers ≤ 16) }
+    requires workers { (1 ≤ settings.workers) × (settings.workers ≤ most_workers) }
     // Each line up to `quit` or the end of the input was answered, and the closing lines were
     // written.
     ensures done { result.stop ≡ Done → ServedAll settings.rounds settings.scale
@@ -254,7 +259,14 @@ pub fn serve<R: Threads + Sync, S: Source + Send + Drop, O: Sink + Send + Drop, 
     // Or a prefix of such a text was written for the lines that were taken.
     ensures part { result.stop ≢ Done → ServedSome settings.rounds settings.scale
         (S.left source) (S.left result.source) (O.taken out) (O.taken result.out) }
-    ensures too_long { result.stop ≡ InputTooLong → IsTooLong (S.left source) (S.left result.source) }
+    ensures too_long { result.stop ≡ InputTooLong
+        → IsTooLong (S.left source) (S.left result.source) }
+    // Each line before the byte that was too much was answered whole, and no closing line came.
+    ensures answered { result.stop ≡ InputTooLong → AnsweredEach settings.rounds settings.scale 1
+        (S.left source) (S.left result.source) (O.taken out) (O.taken result.out) }
+    // So was each line before a read that failed, but those that stood ahead.
+    ensures answered_ahead { result.stop ≡ ReadFault → AnsweredAhead settings.rounds settings.scale
+        (S.left source) (S.left result.source) (O.taken out) (O.taken result.out) }
     ensures read_fault { result.stop ≡ ReadFault → Rose (S.faults source) (S.faults result.source) }
     ensures write_fault { result.stop ≡ WriteFault → Rose (O.faults out) (O.faults result.out) }
     ensures read { S.faults source ≤ S.faults result.source }

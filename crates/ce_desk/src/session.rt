@@ -4,7 +4,7 @@ ghost use Rattle.std.specs.Result.{IfErr};
 ghost use Rattle.ce_lines.specs.Bytes.{room_left};
 ghost use Rattle.ce_lines.specs.declared.asked.Asked.TheVariants.{Read as AskedRead};
 ghost use Rattle.ce_desk.specs.Cases.{AreFirsts, KeepsTurns};
-ghost use Rattle.ce_desk.specs.Desk.{Slot, Desk};
+ghost use Rattle.ce_desk.specs.Desk.{Slot, Desk, most_slots};
 ghost use Rattle.ce_desk.specs.Talks.{Streams, streams, IsTalk, HasTalked, HasHeard, HasEnded};
 ghost use Rattle.ce_desk.specs.Talks.{IsNext};
 
@@ -32,12 +32,12 @@ fn answer_read<S: Source, O: Sink>(
     talk: &mut Talk<S, O>,
 ) -> Result<(), TalkEnd>
     requires there { slot < length cases.now }
-    requires few { length cases.now ≤ 16 }
+    requires few { length cases.now ≤ most_slots }
     requires firsts { (slots : List Slot) × AreFirsts cases.now slots firsts.old }
     ensures lines { talk.new.lines ≡ talk.old.lines }
     ensures count { talk.new.count ≡ talk.old.count }
-    ensures firsts { (slots : List Slot) → AreFirsts cases.now slots firsts.old → (after : List Slot)
-        × AreFirsts cases.now after firsts.new }
+    ensures firsts { (slots : List Slot) → AreFirsts cases.now slots firsts.old
+        → (after : List Slot) × AreFirsts cases.now after firsts.new }
     ensures answered { (rounds exponent : ℕ) (start : Streams) (desk : Desk)
         → AreFirsts cases.now desk.slots firsts.old
         → HasHeard rounds exponent start (Some (AskedRead slot)) desk talk.old.count
@@ -65,13 +65,13 @@ fn answer_and_hear<S: Source, O: Sink>(
     talk: &mut Talk<S, O>,
 ) -> Result<usize, TalkEnd>
     requires there { slot < length cases.now }
-    requires few { length cases.now ≤ 16 }
+    requires few { length cases.now ≤ most_slots }
     requires firsts { (slots : List Slot) × AreFirsts cases.now slots firsts.old }
     requires talk { IsTalk talk.old }
     ensures talk { IsTalk talk.new }
     ensures there { IfOk result (λ next. next < length cases.now) }
-    ensures firsts { (slots : List Slot) → AreFirsts cases.now slots firsts.old → (after : List Slot)
-        × AreFirsts cases.now after firsts.new }
+    ensures firsts { (slots : List Slot) → AreFirsts cases.now slots firsts.old
+        → (after : List Slot) × AreFirsts cases.now after firsts.new }
     ensures next { (rounds exponent : ℕ) (start : Streams) (desk : Desk)
         → AreFirsts cases.now desk.slots firsts.old
         → HasHeard rounds exponent start (Some (AskedRead slot)) desk talk.old.count
@@ -80,7 +80,8 @@ fn answer_and_hear<S: Source, O: Sink>(
         × KeepsTurns desk.slots after.slots
         × IsNext rounds exponent start result after talk.new.count
         (streams S.left S.faults O.taken O.faults talk.new) }
-    ensures fewer { IfOk result (λ _. room_left talk.new.lines.bytes < room_left talk.old.lines.bytes) }
+    ensures fewer { IfOk result
+        (λ _. room_left talk.new.lines.bytes < room_left talk.old.lines.bytes) }
     ensures room { room_left talk.new.lines.bytes ≤ room_left talk.old.lines.bytes }
 {
     answer_read(alloc, cases, firsts, slot, talk)?;
@@ -96,7 +97,7 @@ fn answer_all<S: Source, O: Sink>(
     talk: &mut Talk<S, O>,
 ) -> TalkEnd
     requires there { IfOk first (λ slot. slot < length cases.now) }
-    requires few { length cases.now ≤ 16 }
+    requires few { length cases.now ≤ most_slots }
     requires firsts { (slots : List Slot) × AreFirsts cases.now slots firsts.old }
     requires talk { IsTalk talk.old }
     ensures talk { IsTalk talk.new }
@@ -124,7 +125,7 @@ impl<S: Source, O: Sink> Session<S, O> {
     // Answers lines to the end of the talk.
     pub(crate) fn run(&mut self, alloc: Global, cases: &[Case])
         requires session { IsSession cases.now self.old }
-        requires few { length cases.now ≤ 16 }
+        requires few { length cases.now ≤ most_slots }
         ensures { HasRunSession S.left S.faults O.taken O.faults cases.now self.old self.new }
     {
         let end = answer_all(alloc, cases, &mut self.firsts, self.next, &mut self.talk);

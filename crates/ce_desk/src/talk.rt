@@ -7,7 +7,7 @@ ghost use Rattle.ce_lines.specs.Bytes.{IsNew, WasGiven, room_left};
 ghost use Rattle.ce_lines.specs.Asks.{IsAsked};
 ghost use Rattle.ce_lines.specs.declared.asked.Asked.TheVariants.{Read as AskedRead};
 ghost use Rattle.ce_lines.specs.declared.asked.Asked.TheVariants.{Quit as AskedQuit};
-ghost use Rattle.ce_desk.specs.Desk.{Desk, IsFirstCause, IsLateIfOpen};
+ghost use Rattle.ce_desk.specs.Desk.{Desk, IsFirstCause, IsLateIfOpen, most_slots};
 ghost use Rattle.ce_port.specs.Sink.{GrewBy};
 ghost use Rattle.ce_port.specs.WriteAll.{GrewByPrefix};
 ghost use Rattle.ce_desk.specs.declared.talk.Fault.TheVariants.{NoMemory as Starved};
@@ -73,10 +73,11 @@ pub(crate) fn quits(asked: &Option<Asked>) -> bool
 // angle comes late.
 pub(crate) fn slot_read(asked: &Option<Asked>, slots: usize) -> Result<usize, Cause>
     requires goes_on { asked.now ≢ Some AskedQuit }
-    requires few { slots ≤ 16 }
+    requires few { slots ≤ most_slots }
     ensures slot { IfOk result (λ slot. (asked.now ≡ Some (AskedRead slot)) × (slot < slots)) }
-    ensures cause { IfErr result (λ cause. (desk : Desk) (line : Option (List ℕ)) → length desk.slots ≡ slots
-        → IsLateIfOpen asked.now desk → IsAsked line asked.now → IsFirstCause desk line cause) }
+    ensures cause { IfErr result (λ cause. (desk : Desk) (line : Option (List ℕ))
+        → length desk.slots ≡ slots → IsLateIfOpen asked.now desk
+        → IsAsked line asked.now → IsFirstCause desk line cause) }
 {
     match asked {
         Some(Asked::Read { slot }) if (*slot as usize) < slots => Ok(*slot as usize),
@@ -123,8 +124,10 @@ impl<S: Source, O: Sink> Talk<S, O> {
         ensures heard { IfOk result (HearsLine S.left self.old self.new) }
         ensures ended { IfErr result (HearsEnd S.left S.faults self.old self.new) }
         ensures given { WasGiven S.left self.old.lines.bytes self.new.lines.bytes }
-        ensures counted { S.faults self.old.lines.bytes.source ≤ S.faults self.new.lines.bytes.source }
-        ensures fewer { IfOk result (λ _. room_left self.new.lines.bytes < room_left self.old.lines.bytes) }
+        ensures counted { S.faults self.old.lines.bytes.source
+            ≤ S.faults self.new.lines.bytes.source }
+        ensures fewer { IfOk result
+            (λ _. room_left self.new.lines.bytes < room_left self.old.lines.bytes) }
         ensures room { room_left self.new.lines.bytes ≤ room_left self.old.lines.bytes }
         ensures out { self.new.out ≡ self.old.out }
     {
@@ -175,7 +178,7 @@ impl<S: Source, O: Sink> Talk<S, O> {
     // where it is refused.
     fn take_line(&mut self, alloc: Global, slots: usize) -> Result<Option<usize>, TalkEnd>
         requires talk { IsTalk self.old }
-        requires few { slots ≤ 16 }
+        requires few { slots ≤ most_slots }
         ensures talk { IsTalk self.new }
         ensures there { IfOk result (λ found. IfSome found (λ slot. slot < slots)) }
         ensures after { (rounds exponent : ℕ) (start : Streams) (desk : Desk) → desk.late ≡ true
@@ -184,7 +187,8 @@ impl<S: Source, O: Sink> Talk<S, O> {
             (streams S.left S.faults O.taken O.faults self.old)
             → IsAfterLine rounds exponent start result desk self.new.count
             (streams S.left S.faults O.taken O.faults self.new) }
-        ensures fewer { IfOk result (λ _. room_left self.new.lines.bytes < room_left self.old.lines.bytes) }
+        ensures fewer { IfOk result
+            (λ _. room_left self.new.lines.bytes < room_left self.old.lines.bytes) }
         ensures room { room_left self.new.lines.bytes ≤ room_left self.old.lines.bytes }
     {
         let asked = self.hear()?;
@@ -203,7 +207,7 @@ impl<S: Source, O: Sink> Talk<S, O> {
     // Refuses lines up to one that reads one of so many slots.
     pub(crate) fn next_read(&mut self, alloc: Global, slots: usize) -> Result<usize, TalkEnd>
         requires talk { IsTalk self.old }
-        requires few { slots ≤ 16 }
+        requires few { slots ≤ most_slots }
         ensures talk { IsTalk self.new }
         ensures there { IfOk result (λ slot. slot < slots) }
         ensures next { (rounds exponent : ℕ) (start : Streams) (desk : Desk) → desk.late ≡ true
@@ -212,7 +216,8 @@ impl<S: Source, O: Sink> Talk<S, O> {
             (streams S.left S.faults O.taken O.faults self.old)
             → IsNext rounds exponent start result desk self.new.count
             (streams S.left S.faults O.taken O.faults self.new) }
-        ensures fewer { IfOk result (λ _. room_left self.new.lines.bytes < room_left self.old.lines.bytes) }
+        ensures fewer { IfOk result
+            (λ _. room_left self.new.lines.bytes < room_left self.old.lines.bytes) }
         ensures room { room_left self.new.lines.bytes ≤ room_left self.old.lines.bytes }
     {
         loop {
@@ -224,7 +229,7 @@ impl<S: Source, O: Sink> Talk<S, O> {
 
     // Writes the closing line of each slot.
     fn say_closings(&mut self, alloc: Global, closings: &[Closing]) -> Result<(), TalkEnd>
-        requires few { length closings.now ≤ 16 }
+        requires few { length closings.now ≤ most_slots }
         ensures said { IfOk result
             (λ _. GrewBy (O.taken self.old.out) (O.taken self.new.out)
             (closing_lines 0 closings.now)) }
@@ -249,7 +254,7 @@ impl<S: Source, O: Sink> Talk<S, O> {
         end: TalkEnd,
         closings: &[Closing],
     ) -> Result<(), TalkEnd>
-        requires few { length closings.now ≤ 16 }
+        requires few { length closings.now ≤ most_slots }
         ensures said { IfOk result (λ _. IsGood end
             × GrewBy (O.taken self.old.out) (O.taken self.new.out)
             (closing_text closings.now (quits_at end))) }
@@ -258,7 +263,8 @@ impl<S: Source, O: Sink> Talk<S, O> {
             (closing_text closings.now (quits_at end))) }
         ensures cut { IfErr result
             (λ cut. IsGood end → IsSpeechEnd (O.faults self.old.out) (O.faults self.new.out) cut) }
-        ensures fault { IfErr result (λ cut. (IsGood end → ⊥) → (cut ≡ end) × (self.new.out ≡ self.old.out)) }
+        ensures fault { IfErr result
+            (λ cut. (IsGood end → ⊥) → (cut ≡ end) × (self.new.out ≡ self.old.out)) }
         ensures counted { O.faults self.old.out ≤ O.faults self.new.out }
         ensures lines { self.new.lines ≡ self.old.lines }
     {

@@ -1,8 +1,7 @@
 use Rattle.std.proofs.Common.{[], Err, inl, inr, refl}
 use Rattle.ce_desk.proofs.Hiring.{none_open}
-use Rattle.ce_desk.proofs.Openings.{early_desk}
 use Rattle.ce_desk.proofs.Stopped.{begun_next}
-use Rattle.ce_desk.specs.Desk.{empty_desk}
+use Rattle.ce_desk.specs.Desk.{empty_desk, early_desk}
 use Rattle.ce_desk.specs.ServedInside.{at_start}
 use Rattle.ce_desk.specs.declared.talk.Fault.TheVariants.{NoMemory}
 use Rattle.ce_desk.specs.declared.talk.TalkEnd.TheVariants.{Fault as Failed}

@@ -32,6 +32,20 @@ returns-clause-too_long g c =
     c.args.settings.scale c.args.source c.args.out c.new.result c.new.ensures.lines c.new.ensures.out
     c.new.ensures.count)).too_long
 
+pub returns-clause-answered : goal.returns-clause-answered
+returns-clause-answered g c =
+    (c.open_and_run.ensures c.args.source c.args.out
+    (has_begun g.S.Source.left g.S.Source.faults g.O.Sink.taken g.O.Sink.faults c.args.settings.rounds
+    c.args.settings.scale c.args.source c.args.out c.new.result c.new.ensures.lines c.new.ensures.out
+    c.new.ensures.count)).answered
+
+pub returns-clause-answered_ahead : goal.returns-clause-answered_ahead
+returns-clause-answered_ahead g c =
+    (c.open_and_run.ensures c.args.source c.args.out
+    (has_begun g.S.Source.left g.S.Source.faults g.O.Sink.taken g.O.Sink.faults c.args.settings.rounds
+    c.args.settings.scale c.args.source c.args.out c.new.result c.new.ensures.lines c.new.ensures.out
+    c.new.ensures.count)).answered_ahead
+
 pub returns-clause-read_fault : goal.returns-clause-read_fault
 returns-clause-read_fault g c =
     (c.open_and_run.ensures c.args.source c.args.out

@@ -4,7 +4,7 @@ use Rattle.std.specs.Result.{IfErr}
 use Rattle.ce_lines.specs.declared.asked.Asked.TheVariants.{Read as AskedRead}
 use Rattle.ce_port.specs.Sink.{GrewBy}
 use Rattle.ce_port.specs.WriteAll.{GrewByPrefix}
-use Rattle.ce_desk.specs.Desk.{Desk}
+use Rattle.ce_desk.specs.Desk.{Desk, early_desk}
 use Rattle.ce_desk.specs.DeskText.{read_text}
 use Rattle.ce_desk.specs.declared.talk.Fault.TheVariants.{NoMemory}
 use Rattle.ce_desk.specs.declared.talk.TalkEnd.TheVariants.{Fault as Failed}
@@ -78,7 +78,7 @@ returns-clause-answered g c = λ rounds exponent start desk h heard.
 
 pub returns-in_err-line-clause-firsts : goal.returns-in_err-line-clause-firsts
 returns-in_err-line-clause-firsts g c = λ slots h.
-    let desk : Desk = record { slots = slots; late = false } in
+    let desk : Desk = early_desk slots in
     let j = c.args.slot in
     let e = c.load_bounds-interval.ensures in
     let i = c.load_bounds-interval.result in
@@ -93,7 +93,7 @@ returns-in_err-line-clause-firsts g c = λ slots h.
 
 pub returns-clause-firsts : goal.returns-clause-firsts
 returns-clause-firsts g c = λ slots h.
-    let desk : Desk = record { slots = slots; late = false } in
+    let desk : Desk = early_desk slots in
     let j = c.args.slot in
     let e = c.load_bounds-interval.ensures in
     let i = c.load_bounds-interval.result in

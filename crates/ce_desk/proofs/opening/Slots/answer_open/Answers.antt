@@ -9,8 +9,9 @@ use Rattle.ce_desk.specs.declared.opening.Slots.{Slots}
 use Rattle.ce_desk.specs.DeskText.{opened_text, refused_text}
 use Rattle.ce_desk.specs.declared.talk.Fault.TheVariants.{NoMemory}
 use Rattle.ce_desk.specs.declared.talk.TalkEnd.TheVariants.{Fault as Failed}
-use Rattle.ce_desk.proofs.Openings.{early_desk, opens_reply, open_cause}
+use Rattle.ce_desk.proofs.Openings.{opens_reply, open_cause}
 use Rattle.ce_desk.proofs.Talking.{said_any, said_none, err_is, refuses}
+use Rattle.ce_desk.specs.Desk.{early_desk}
 use Rattle.ce_desk.proofs.opening.Slots.answer_open.Goals as goal
 
 pub returns-in-Err-clause-answered : goal.returns-in-Err-clause-answered

@@ -1,7 +1,7 @@
 use Rattle.std.proofs.Common.{◌≡◌, ◌≤◌, ℕ, false, List}
 use Rattle.ce_lines.specs.Bytes.{room_left}
 use Rattle.ce_desk.specs.Cases.{AreOpenSlots}
-use Rattle.ce_desk.specs.Desk.{Slot}
+use Rattle.ce_desk.specs.Desk.{Slot, early_desk}
 use Rattle.ce_desk.specs.Opening.{HasRoom}
 use Rattle.ce_desk.specs.Talks.{Streams, streams, IsTalk, HasTalked}
 use Rattle.ce_desk.proofs.opening.Slots.open_all.Given as goal
@@ -12,10 +12,10 @@ invariant-loop-slot g l = record {
   talk : IsTalk l.talk;
   talked : (start : Streams) (slots : List Slot)
       → AreOpenSlots l.fn.self.cases.items l.fn.self.firsts.items l.fn.self.workers.items slots
-      → HasTalked l.settings.rounds l.settings.scale start (record { slots = slots; late = false }) l.fn.talk.count
+      → HasTalked l.settings.rounds l.settings.scale start (early_desk slots) l.fn.talk.count
       (streams g.S.Source.left g.S.Source.faults g.O.Sink.taken g.O.Sink.faults l.fn.talk)
       → (after : List Slot) × AreOpenSlots l.self.cases.items l.self.firsts.items l.self.workers.items after
-      × HasTalked l.settings.rounds l.settings.scale start (record { slots = after; late = false }) l.talk.count
+      × HasTalked l.settings.rounds l.settings.scale start (early_desk after) l.talk.count
       (streams g.S.Source.left g.S.Source.faults g.O.Sink.taken g.O.Sink.faults l.talk);
 }
 

@@ -83,7 +83,8 @@ module _ (rounds exponent : ℕ) (known : IsExponent exponent) where
       All-weaker (IsSound rounds exponent) (IsTrueSlot rounds exponent) slot_true desk.slots
       (slots_sound lines desk text replies)
 
-  text_true : (lines : List (Option (List ℕ))) (quits : Bool) (text : List ℕ) → IsDeskText rounds exponent lines quits text
+  text_true : (lines : List (Option (List ℕ))) (quits : Bool) (text : List ℕ)
+      → IsDeskText rounds exponent lines quits text
       → TellsTruly rounds exponent lines quits text
   text_true lines quits text t = record {
     is_text = t;
@@ -148,6 +149,8 @@ module _ {S O : Type 0} (left : S → Option (List ℕ)) (read_faults : S → �
         none-prefix (taken out) [],
       );
       too_long = λ same. absurd (cc);
+      answered = λ same. absurd (cc);
+      answered_ahead = λ same. absurd (cc);
       read_fault = λ same. absurd (cc);
       write_fault = λ same. absurd (cc);
       read = omega arith;
@@ -186,14 +189,15 @@ any_desk words asked is (r, w, e, desk) = (r, w, e, is ∙ ap (λ (c : Command).
 
 -- What was served as the words ask was served as they ask by other names.
 pub served_as : {S O : Type 0} (left : S → Option (List ℕ)) (read_faults : S → ℕ) (taken : O → Option (List ℕ))
-    (write_faults : O → ℕ) (words : List (List ℕ)) (r w e rounds workers exponent : ℕ) (source : S) (out : O) (s : Status)
-    (source_after : S) (out_after : O) → AskForDesk words r w e → AskForDesk words rounds workers exponent
+    (write_faults : O → ℕ) (words : List (List ℕ)) (r w e rounds workers exponent : ℕ)
+    (source : S) (out : O) (s : Status) (source_after : S) (out_after : O) → AskForDesk words r w e → AskForDesk words rounds workers exponent
     → HasRunDesk left read_faults taken write_faults r e source out s source_after out_after
     → HasRunDesk left read_faults taken write_faults rounds exponent source out s source_after out_after
 served_as left read_faults taken write_faults words r w e rounds workers exponent source out s source_after out_after
     asks also h =
     let same = one_desk words r w e rounds workers exponent asks also in
-    subst (λ (n : ℕ). HasRunDesk left read_faults taken write_faults n exponent source out s source_after out_after) same.0
+    subst (λ (n : ℕ). HasRunDesk left read_faults taken write_faults n exponent source out s source_after out_after)
+    same.0
     (subst (λ (n : ℕ). HasRunDesk left read_faults taken write_faults r n source out s source_after out_after) same.1 h)
 
 pub known_exponent : (words : List (List ℕ)) (r w e : ℕ) → AskForDesk words r w e → IsExponent e
@@ -242,7 +246,8 @@ settings_refused words read is usage (Err e) (inl memory) = inl memory
 settings_refused words read is usage (Err e) (inr none) = inr (none.0, read_none words read is usage none.2 none.1)
 
 -- The settings of a command that was read.
-pub read_some : (read : Result Command WordsError) (asked : Command) → read ≡ Ok asked → (r : Result DeskSettings Status)
+pub read_some : (read : Result Command WordsError) (asked : Command) → read ≡ Ok asked
+    → (r : Result DeskSettings Status)
     → IfOk r (λ s. asked ≡ command.Desk s.rounds s.workers s.scale)
     → IfOk r (λ s. read ≡ Ok (command.Desk s.rounds s.workers s.scale))
 read_some read asked is (Ok s) desk = is ∙ ok_is asked (command.Desk s.rounds s.workers s.scale) desk
@@ -254,7 +259,8 @@ same_command asked other same = cc
 not_starved : (asked : Command) → ◌≡◌ {A = Result Command WordsError} (Ok asked) (Err words_error.NoMemory) → ⊥
 not_starved asked same = absurd (cc)
 
-pub read_other : (read : Result Command WordsError) (asked : Command) → read ≡ Ok asked → (r : Result DeskSettings Status)
+pub read_other : (read : Result Command WordsError) (asked : Command) → read ≡ Ok asked
+    → (r : Result DeskSettings Status)
     → IfErr r (λ s. (s ≡ status.Usage) × ¬ (IsDesk asked))
     → IfErr r (λ s. (s ≡ status.NoMemory) ⊎ ((s ≡ status.Usage) × (read ≢ Err words_error.NoMemory)
     × ((r w e : ℕ) → read ≢ Ok (command.Desk r w e))))

@@ -54,7 +54,8 @@ AreTrueClosings rounds exponent slots closings = (i : ℕ) (x : Slot) (c : Closi
     → IsTrueClaim (solved (slice_index_or slots i x).angle rounds exponent (slice_index_or closings i c).interval)
 
 -- Each interval in a text of a desk is true.
-pub record TellsTruly (rounds exponent : ℕ) (lines : List (Option (List ℕ))) (quits : Bool) (text : List ℕ) : Type 0 where
+pub record TellsTruly (rounds exponent : ℕ) (lines : List (Option (List ℕ))) (quits : Bool)
+    (text : List ℕ) : Type 0 where
   pub is_text : IsDeskText rounds exponent lines quits text
   pub slots : All (IsTrueSlot rounds exponent) is_text.desk.slots
   pub closings : AreTrueClosings rounds exponent is_text.desk.slots is_text.closings

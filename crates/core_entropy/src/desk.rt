@@ -97,8 +97,8 @@ fn status_at(stop: DeskStop) -> Status
 }
 
 /// Does what words ask for that ask for a desk: takes lines from the source and writes the replies
-/// to `out`, and hands both back. Other words are Usage. The error line goes to `err`, whose faults
-/// change no status.
+/// to `out`, and hands both back. A line is answered before the next is taken. Other words are
+/// Usage. The error line goes to `err`, whose faults change no status.
 pub fn run_desk<
     R: Threads + Sync,
     S: Source + Send + Drop,
@@ -119,19 +119,23 @@ pub fn run_desk<
         → AskForDesk (map string_bytes words.now) rounds workers exponent
         → DeskHeadline rounds exponent (O.taken out) (O.taken result.out) }
 
-    // What was written is the text of a desk for the lines that were taken, whole or a prefix, by the
-    // status; and no other status comes.
+    // What was written is the text of a desk for the lines that were taken, whole or a prefix, by
+    // the status; and no other status comes. With InputTooLong and ReadFault it is the whole
+    // replies to the lines that were taken.
     ensures served { (rounds workers exponent : ℕ)
         → AskForDesk (map string_bytes words.now) rounds workers exponent
         → HasRunDesk S.left S.faults O.taken O.faults rounds exponent source out
         result.status result.source result.out }
     ensures complete { AskForAnyDesk (map string_bytes words.now)
-        → ¬ (Rose (S.faults source) (S.faults result.source)) → ¬ (Rose (O.faults out) (O.faults result.out))
-        → ¬ (IsTooLong (S.left source) (S.left result.source)) → IsUnlessNoMemory result.status Status.Done }
+        → ¬ (Rose (S.faults source) (S.faults result.source))
+        → ¬ (Rose (O.faults out) (O.faults result.out))
+        → ¬ (IsTooLong (S.left source) (S.left result.source))
+        → IsUnlessNoMemory result.status Status.Done }
 
     // Words that ask for no desk are Usage, and change nothing.
     ensures refused { ¬ (AskForAnyDesk (map string_bytes words.now))
-        → IsUnlessNoMemory result.status Status.Usage × (result.source ≡ source) × (result.out ≡ out) }
+        → IsUnlessNoMemory result.status Status.Usage
+        × (result.source ≡ source) × (result.out ≡ out) }
 
     ensures error { WroteLine (error_line result.status) (E.taken err.old) (E.taken err.new)
         (E.faults err.old) (E.faults err.new) }

@@ -12,7 +12,8 @@ returns-in-Ok-clause-headline g c = λ rounds workers exponent asks.
     let s = c.in-Ok.settings in
     let end = c.serve-stop.result in
     let e = c.serve-stop.ensures in
-    served_headline g.S.Source.left g.S.Source.faults g.O.Sink.taken g.O.Sink.faults rounds exponent c.args.source c.args.out
+    served_headline g.S.Source.left g.S.Source.faults g.O.Sink.taken g.O.Sink.faults rounds exponent
+    c.args.source c.args.out
     (known_exponent words rounds workers exponent asks) c.tell-status.result end.source end.out
     (served_as g.S.Source.left g.S.Source.faults g.O.Sink.taken g.O.Sink.faults words s.rounds s.workers s.scale rounds
     workers exponent c.args.source c.args.out c.tell-status.result end.source end.out c.in-Ok.ensures.asked asks (
@@ -22,6 +23,8 @@ returns-in-Ok-clause-headline g c = λ rounds workers exponent asks.
         done = e.done;
         part = e.part;
         too_long = e.too_long;
+        answered = e.answered;
+        answered_ahead = e.answered_ahead;
         read_fault = e.read_fault;
         write_fault = e.write_fault;
         read = e.read;
@@ -43,6 +46,8 @@ returns-in-Ok-clause-served g c = λ rounds workers exponent asks.
         done = e.done;
         part = e.part;
         too_long = e.too_long;
+        answered = e.answered;
+        answered_ahead = e.answered_ahead;
         read_fault = e.read_fault;
         write_fault = e.write_fault;
         read = e.read;
@@ -53,9 +58,11 @@ returns-in-Ok-clause-served g c = λ rounds workers exponent asks.
 pub returns-in-Err-clause-headline : goal.returns-in-Err-clause-headline
 returns-in-Err-clause-headline g c = λ rounds workers exponent asks.
     let words = map string_bytes c.args.words.now in
-    served_headline g.S.Source.left g.S.Source.faults g.O.Sink.taken g.O.Sink.faults rounds exponent c.args.source c.args.out
+    served_headline g.S.Source.left g.S.Source.faults g.O.Sink.taken g.O.Sink.faults rounds exponent
+    c.args.source c.args.out
     (known_exponent words rounds workers exponent asks) _ c.args.source c.args.out
-    (none_served g.S.Source.left g.S.Source.faults g.O.Sink.taken g.O.Sink.faults rounds exponent c.args.source c.args.out)
+    (none_served g.S.Source.left g.S.Source.faults g.O.Sink.taken g.O.Sink.faults rounds exponent
+    c.args.source c.args.out)
 
 pub returns-in-Err-clause-served : goal.returns-in-Err-clause-served
 returns-in-Err-clause-served g c = λ rounds workers exponent asks.
@@ -65,4 +72,5 @@ returns-in-Err-clause-served g c = λ rounds workers exponent asks.
     (asks_any words rounds workers exponent asks) in
     subst (λ (s : Status). HasRunDesk g.S.Source.left g.S.Source.faults g.O.Sink.taken g.O.Sink.faults rounds exponent
     c.args.source c.args.out s c.args.source c.args.out) (sym is)
-    (none_served g.S.Source.left g.S.Source.faults g.O.Sink.taken g.O.Sink.faults rounds exponent c.args.source c.args.out)
+    (none_served g.S.Source.left g.S.Source.faults g.O.Sink.taken g.O.Sink.faults rounds exponent
+    c.args.source c.args.out)

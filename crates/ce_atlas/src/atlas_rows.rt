@@ -6,6 +6,7 @@ ghost use Rattle.ce_solve.specs.Limits.{AreWithinLimits};
 ghost use Rattle.ce_sweep.specs.Classes.{AreClasses};
 ghost use Rattle.ce_atlas.specs.Atlas.{AreRowsOf, EnclosesClass, IsAtlas, IsRowOf};
 ghost use Rattle.ce_atlas.specs.AtlasInside.{AreFirstRows};
+ghost use Rattle.ce_atlas.specs.InternalAddress.{most_entry};
 
 use crate::class_sizes::class_sizes;
 use crate::count_below::{count_below, sorted_highs};
@@ -120,7 +121,7 @@ pub fn atlas<R: Threads + Sync, G: Gate + Sync>(
     requires settings { AreWithinLimits settings }
     ensures rows { IfOk result (λ rows. IsAtlas settings order rows.items) }
     ensures enclose { IfOk result (λ rows. All (EnclosesClass settings.scale) rows.items) }
-    ensures addresses { IfOk result (λ rows. All (λ row. row.address.len ≤ 16) rows.items) }
+    ensures addresses { IfOk result (λ rows. All (λ row. row.address.len ≤ most_entry) rows.items) }
 {
     let angles = angles_up_to(alloc, order)?;
     // Reading the exponent brings in that it is 32 or 48.

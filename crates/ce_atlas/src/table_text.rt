@@ -2,6 +2,7 @@
 ghost use Rattle.std.specs.Prelude.{◌≡◌, ◌++◌, ◌∷◌, ◌≤◌, ℕ, List, All, decimal, length, map, string_bytes};
 ghost use Rattle.std.specs.Prelude.{IfOk, OnOk};
 ghost use Rattle.ce_angle.specs.Spelled.{fraction_text};
+ghost use Rattle.ce_atlas.specs.InternalAddress.{most_entry};
 ghost use Rattle.ce_atlas.specs.Table.{after_spaces, fields_of_row, line_of, names, spaced, table_text};
 ghost use Rattle.ce_atlas.specs.Writing.{HasWritten, IsPlain};
 
@@ -112,7 +113,7 @@ fn write_row(
     number: u64,
     row: &ClassRow,
 ) -> Result<(), NoMemory>
-    requires { row.now.address.len ≤ 16 }
+    requires { row.now.address.len ≤ most_entry }
     ensures { (text : List ℕ) → HasWritten text writer.old
         → OnOk result (HasWritten (text ++ line_of (fields_of_row number row.now)) writer.new) }
 {
@@ -142,7 +143,7 @@ fn write_row(
 /// The atlas as comma-separated values: a line of names, and a line for each class, with the
 /// entries of its address between spaces.
 pub fn table(alloc: Global, rows: &[ClassRow]) -> Result<Vec<u8>, NoMemory>
-    requires { All (λ row. row.address.len ≤ 16) rows.now }
+    requires { All (λ row. row.address.len ≤ most_entry) rows.now }
     ensures { IfOk result (λ text. text.items ≡ table_text rows.now) }
 {
     let mut writer = WriterBuilder::new().from_writer(Vec::new(alloc));

@@ -17,8 +17,10 @@ use Rattle.ce_command.specs.Form.{CommandForm, app_of_form}
 use Rattle.ce_command.specs.Table.{app_named, form_of}
 use Rattle.ce_command.specs.Meaning.{given_to}
 use Rattle.ce_command.specs.declared.command.CommandName.{CommandName}
-use Rattle.ce_command.proofs.Values.{AreFull, IsFull, is_single, first_empty, settled_full, walk_full}
-use Rattle.ce_command.proofs.PlainWalk.{ServesFrom, either_false, ready_positional}
+use Rattle.ce_command.proofs.SingleValue.{is_single}
+use Rattle.ce_command.proofs.Values.{AreFull, IsFull, first_empty, settled_full, walk_full}
+use Rattle.ce_command.proofs.PlainTexts.{either_false}
+use Rattle.ce_command.proofs.PlainWalk.{ServesFrom, ready_positional}
 use Rattle.ce_command.proofs.PlainForm.{Fits, no_defaults, top_of}
 use Rattle.ce_command.proofs.TableRows.{fits}
 

@@ -7,10 +7,11 @@ ghost use Rattle.ce_command.specs.Reading.{given_by};
 ghost use Rattle.ce_command.specs.Table.{form_of};
 
 use crate::options::{
-    COUNT, DEGREE, FIRST, FRACTION, FROM, LOOK, NumberOption, ORDER, READS, ROUNDS, RUN, SCALE,
-    SECOND, SESSIONS, START, STILL, TALK, TO, TURNS, WORKERS,
+    COUNT, DEGREE, FIRST, FRACTION, FROM, LOOK, ORDER, READS, ROUNDS, RUN, SCALE, SECOND, SESSIONS,
+    START, STILL, TALK, TO, TURNS, WORKERS,
 };
 use crate::parsing::{angle_in, number_in};
+use crate::row::Row;
 use ce_angle::{Angle, AngleError};
 use clap::ArgMatches;
 
@@ -143,38 +144,6 @@ const NAMES: [CommandName; 14] = [
     CommandName::Watch,
     CommandName::Desk,
 ];
-
-/// The words of a command: its name, its positional words, those of them that are numbers, and its
-/// options.
-#[derive(Clone, Copy, Debug)]
-pub(crate) struct Row<'a> {
-    pub name: &'a str,
-    pub positionals: &'a [&'a str],
-    pub numbers: &'a [NumberOption],
-    pub options: &'a [NumberOption],
-}
-
-impl<'a> Row<'a> {
-    // The row of these words.
-    fn of(
-        name: &'a str,
-        positionals: &'a [&'a str],
-        numbers: &'a [NumberOption],
-        options: &'a [NumberOption],
-    ) -> Self
-        ensures name { result.name.now ≡ name.now }
-        ensures positionals { result.positionals.now ≡ positionals.now }
-        ensures numbers { result.numbers.now ≡ numbers.now }
-        ensures options { result.options.now ≡ options.now }
-    {
-        Row {
-            name,
-            positionals,
-            numbers,
-            options,
-        }
-    }
-}
 
 impl CommandName {
     /// The command that a word names.

@@ -10,6 +10,7 @@ mod command;
 mod laws;
 mod options;
 mod parsing;
+mod row;
 #[cfg(test)]
 mod tests;
 mod words;

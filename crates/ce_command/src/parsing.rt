@@ -53,7 +53,8 @@ fn description<'a>(alloc: Global, name: CommandName) -> Result<clap::Command<'a>
 
 // What an error of `clap` comes to.
 fn refusal(error: &clap::Error) -> WordsError
-    ensures { result ≡ WordsError.Usage → kind_of error.now ≢ ErrorKind.OutOfMemory }
+    ensures usage { result ≡ WordsError.Usage → kind_of error.now ≢ ErrorKind.OutOfMemory }
+    ensures memory { result ≡ WordsError.NoMemory → kind_of error.now ≡ ErrorKind.OutOfMemory }
 {
     match error.kind() {
         ErrorKind::OutOfMemory => WordsError::NoMemory,

@@ -96,6 +96,15 @@ fn replay(angle: Result<Angle, AngleError>, rounds: u32, scale: u32) -> Command 
     }
 }
 
+// The command `desk`.
+fn desk(rounds: u32, workers: u32, scale: u32) -> Command {
+    Command::Desk {
+        rounds,
+        workers,
+        scale,
+    }
+}
+
 // The command `watch` for 1/4 with the usual options but these.
 fn watch(sessions: u32, reads: u32) -> Command {
     Command::Watch {
@@ -170,6 +179,8 @@ fn other_commands_are_read_with_their_numbers(rt: HostRuntime) -> Result<(), Fai
         ("merge", Command::Merge),
         ("compare 1/4 5/4 --rounds 0", compare),
         ("atlas 128 --scale 48", atlas),
+        ("desk", desk(36, 2, 32)),
+        ("desk --workers 16 --scale=48 --rounds 0", desk(0, 16, 48)),
     ];
     for (line, want) in table {
         let words = words_of(rt.alloc(), line)?;
@@ -246,6 +257,9 @@ fn words_without_a_command_are_usage(rt: HostRuntime) -> Result<(), Fail> {
         "watch 1/4 --reads 1001",
         "watch 1/4 --sessions 0",
         "watch 1/4 --sessions 9",
+        "desk 1/4",
+        "desk --turns 0",
+        "desk --workers 17",
     ];
     for line in table {
         let words = words_of(rt.alloc(), line)?;

@@ -1,4 +1,4 @@
-use Rattle.std.proofs.Common.{◌≡◌, [], Bor, List, ℕ}
+use Rattle.std.proofs.Common.{[]}
 use Rattle.ce_command.specs.Reading.{given_by}
 use Rattle.ce_command.specs.declared.options.NumberOption.{NumberOption}
 use Rattle.ce_command.specs.declared.options.Numbers.TheVariants.{Between}

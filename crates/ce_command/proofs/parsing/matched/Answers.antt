@@ -17,4 +17,4 @@ pub returns-in-Err : goal.returns-in-Err
 returns-in-Err c =
     refused_as (app_of c.in-Ok.command) (app_named c.args.name) (map string_bytes c.args.words.now) c.in-Err.error
     c.refusal.result
-    c.in-Ok.ensures (simple_and_free c.args.name) c.in-Err.ensures.kinds c.in-Err.ensures.passes c.refusal.ensures
+    c.in-Ok.ensures (simple_and_free c.args.name) c.in-Err.ensures.kinds c.in-Err.ensures.passes c.refusal.ensures.usage

@@ -1,5 +1,5 @@
 -- The task of the command `angle`, and what those for one angle have in common.
-use Rattle.std.proofs.Common.{length, ◌≡◌, ◌<◌, ◌≤◌, ◌⊎◌, ◌∙◌, inl, inr, ℕ, List, [], ◌∷◌, Some, refl, sym, ap, subst}
+use Rattle.std.proofs.Common.{length, ◌≡◌, ◌≤◌, ◌⊎◌, ◌∙◌, inl, inr, ℕ, List, [], ◌∷◌, refl, sym, ap, subst}
 use Rattle.std.proofs.Common.{arith, Result, String, Global, string_bytes}
 use Rattle.std.specs.Prelude.{All, IfOk}
 use Rattle.std.proofs.lemmas.Result.{IfOk-weaker}
@@ -19,7 +19,7 @@ use Rattle.core_entropy.specs.Angle.{IsAngleText, angle_task, interval_of, line_
 use Rattle.ce_thurston.specs.Indices.{rows_at}
 use Rattle.core_entropy.specs.Headline.{IsTrueClaim, ClaimsTruly, IsInsideInitial}
 use Rattle.core_entropy.specs.Status.{IsCalledFor}
-use Rattle.core_entropy.specs.Task.{Claim, Task, Unless, solved}
+use Rattle.core_entropy.specs.Task.{Unless, solved}
 use Rattle.core_entropy.specs.declared.status.Status.{Status}
 use Rattle.core_entropy.specs.declared.status.Status.TheVariants.{Done, OrbitTooLong}
 use Rattle.core_entropy.proofs.DegreeClaims.{doubling_true}

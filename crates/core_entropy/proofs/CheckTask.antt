@@ -1,10 +1,10 @@
 -- The tasks that read a map and answer its verdict.
-use Rattle.std.proofs.Common.{◌≡◌, ◌<◌, ◌≤◌, ◌⊎◌, ◌∙◌, inl, inr, ℕ, List, [], Option, Some, length, refl, sym, ap}
+use Rattle.std.proofs.Common.{◌≡◌, ◌≤◌, ◌∙◌, inl, inr, ℕ, List, [], Option, length, refl, sym, ap}
 use Rattle.std.proofs.Common.{subst, arith, map}
 use Rattle.std.specs.Prelude.{All}
 use Rattle.std.proofs.lemmas.List.Elements.{All-map, All-nil, All-weaker}
 use Rattle.ce_check.specs.GoodMap.{IsCertified}
-use Rattle.ce_check.specs.Verdicts.{HasGoodMap, IsVerdict}
+use Rattle.ce_check.specs.Verdicts.{IsVerdict}
 use Rattle.ce_check.specs.declared.verdict.Verdict.{Verdict}
 use Rattle.ce_check.specs.declared.verdict.Verdict.TheVariants.{Accepted, Refused}
 use Rattle.ce_check.proofs.OneVerdict.{one_verdict}
@@ -12,7 +12,7 @@ use Rattle.ce_check.proofs.OrbitRows.{certified_encloses}
 use Rattle.ce_check.proofs.SomeVerdict.{some_verdict}
 use Rattle.ce_map.specs.Grammar.{Header, IsHeader, IsMapOf, Item}
 use Rattle.ce_rows.specs.Scale.{IsExponent}
-use Rattle.core_entropy.specs.Calls.{CallsFor, IsAbove}
+use Rattle.core_entropy.specs.Calls.{CallsFor}
 use Rattle.core_entropy.specs.Checked.{EndsByVerdict, VerdictClaims, item_claim, map_limit, status_of, verdict_task}
 use Rattle.core_entropy.specs.Headline.{ClaimsTruly, IsTrueClaim}
 use Rattle.core_entropy.specs.Output.{HasEnded, Wrote}

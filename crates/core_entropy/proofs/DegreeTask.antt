@@ -1,6 +1,6 @@
 -- The task of the command `degree`.
-use Rattle.std.proofs.Common.{length, ◌≡◌, ◌≢◌, ◌<◌, ◌≤◌, ◌⊎◌, ◌∙◌, inl, inr, ℕ, zero, suc, Bool, true, false, List, []}
-use Rattle.std.proofs.Common.{◌∷◌, refl, sym, ap, subst, arith, Result, String, Global, string_bytes}
+use Rattle.std.proofs.Common.{length, ◌≡◌, ◌≤◌, ◌∙◌, ℕ, true, List, []}
+use Rattle.std.proofs.Common.{◌∷◌, refl, sym, subst, arith, Result, String, Global, string_bytes}
 use Rattle.std.specs.Prelude.{IfOk}
 use Rattle.std.proofs.lemmas.Result.{IfOk-weaker}
 use Rattle.std.proofs.lemmas.List.Elements.{All-nil, All-cons}

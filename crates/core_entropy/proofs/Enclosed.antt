@@ -1,6 +1,5 @@
 -- Initial enclosures enclose.
-use Rattle.std.proofs.Common.{◌≡◌, ◌≤◌, ◌+◌, ◌*◌, ◌^◌, ℕ, List, sym, subst, refl, arith}
-use Rattle.ce_cert.specs.Quotients.{low_of, high_of}
+use Rattle.std.proofs.Common.{◌≡◌, ◌≤◌, ◌+◌, ◌*◌, ◌^◌, ℕ, sym, subst}
 use Rattle.ce_cert.proofs.Defined.{low_is_lower_bound, high_is_upper_bound}
 use Rattle.ce_comp.proofs.Rankings.{numbering_is_ranking}
 use Rattle.ce_orbit.specs.Orbit.{ForwardOrbit, IsForwardOrbit}

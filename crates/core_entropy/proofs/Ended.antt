@@ -1,9 +1,8 @@
 -- How a task ended, from what was written.
-use Rattle.std.proofs.Common.{◌≡◌, ◌≤◌, ◌⊎◌, ◌++◌, inl, inr, ℕ, List, Option, Result, Ok, Err, refl, sym, subst, arith}
-use Rattle.std.specs.Prelude.{IfErr, OnErr}
+use Rattle.std.proofs.Common.{◌≡◌, ◌≤◌, inl, inr, ℕ, List, Option, Result, Ok, Err, sym, subst, arith}
+use Rattle.std.specs.Prelude.{OnErr}
 use Rattle.std.specs.Result.{IsErrAnd}
 use Rattle.ce_port.specs.Sink.{GrewBy, Rose}
-use Rattle.ce_port.specs.WriteAll.{GrewByPrefix}
 use Rattle.core_entropy.specs.Calls.{CallsFor}
 use Rattle.core_entropy.specs.Output.{GrewByPart, HasEnded, Wrote}
 use Rattle.core_entropy.specs.Status.{IsCalledFor, IsEndOfAnswer, IsOfWriting, IsStopped, IsUnheard, ended_with}

@@ -16,7 +16,7 @@ use Rattle.core_entropy.specs.Degree.{degree_task}
 use Rattle.core_entropy.specs.Replay.{replay_task}
 use Rattle.core_entropy.specs.Table.{task_asked, task_if, task_of}
 use Rattle.core_entropy.specs.Watch.{watch_task}
-use Rattle.core_entropy.specs.Task.{Task, on_angle, refusal}
+use Rattle.core_entropy.specs.Task.{Task, on_angle}
 use Rattle.core_entropy.specs.declared.status.Status.TheVariants as status
 use Rattle.core_entropy.proofs.AngleTask.{angle_lawful}
 use Rattle.core_entropy.proofs.CheckTask.{verdict_lawful}

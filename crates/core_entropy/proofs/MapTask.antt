@@ -1,5 +1,5 @@
 -- The task of the command `map`.
-use Rattle.std.proofs.Common.{◌≡◌, ◌<◌, ◌≤◌, ◌+◌, ◌^◌, ◌++◌, ◌∷◌, ◌∙◌, inl, inr, ℕ, List, [], get_or, length, map, refl}
+use Rattle.std.proofs.Common.{◌≡◌, ◌<◌, ◌≤◌, ◌+◌, ◌++◌, ◌∷◌, ◌∙◌, inl, inr, ℕ, List, [], get_or, length, map, refl}
 use Rattle.std.proofs.Common.{sym, ap, subst, arith}
 use Rattle.std.specs.Prelude.{All}
 use Rattle.std.specs.List.{flat_map, range_with_len}
@@ -13,7 +13,7 @@ use Rattle.ce_cert.specs.Certificate.{Evidence, IsCertificate}
 use Rattle.ce_cert.specs.Evidence.{evidence_in}
 use Rattle.ce_cert.proofs.Enclose.{certificate_encloses}
 use Rattle.ce_map.specs.Digits.{IsNumber}
-use Rattle.ce_map.specs.Grammar.{IsItem, IsList, Item, end_line, header_line, item_text, map_text}
+use Rattle.ce_map.specs.Grammar.{IsItem, Item, end_line, header_line, item_text}
 use Rattle.ce_orbit.specs.Orbit.{ForwardOrbit, IsForwardOrbit}
 use Rattle.ce_rows.specs.Rows.{AreScaledRows}
 use Rattle.ce_rows.specs.Scale.{IsExponent}

@@ -2,7 +2,6 @@
 use Rattle.std.proofs.Common.{◌≡◌, ◌∙◌, ℕ, List, [], ◌∷◌, length, map, refl, sym, ap, subst}
 use Rattle.std.specs.List.{All}
 use Rattle.std.proofs.lemmas.List.Elements.{All-head, All-tail}
-use Rattle.ce_angle.specs.Fraction.{Fraction}
 use Rattle.ce_angle.proofs.OneList.{one_list}
 use Rattle.ce_map.specs.Grammar.{Item, map_text}
 use Rattle.ce_orbit.proofs.Unique.{one_orbit}

@@ -1,7 +1,7 @@
 -- What an end of a task says of what was written, and of what is called for.
-use Rattle.std.proofs.Common.{◌≡◌, ◌≤◌, ◌+◌, ◌⊎◌, inl, inr, ℕ, List, [], Option, None, Some, refl, sym, subst, arith}
+use Rattle.std.proofs.Common.{◌≡◌, ◌+◌, ◌⊎◌, inl, inr, ℕ, List, [], Option, None, Some, refl, sym, subst, arith}
 use Rattle.std.proofs.Common.{length-append}
-use Rattle.std.specs.Prelude.{Result, Ok, Err}
+use Rattle.std.specs.Prelude.{Result}
 use Rattle.std.specs.Result.{IsErrAnd}
 use Rattle.std.specs.Io.KnownBytes.{Consumes}
 use Rattle.ce_command.specs.Meaning.{command_of}
@@ -10,7 +10,6 @@ use Rattle.ce_command.specs.declared.words.WordsError.{WordsError}
 use Rattle.ce_command.specs.declared.words.WordsError.TheVariants as words
 use Rattle.ce_port.specs.ReadAll.{Gave}
 use Rattle.ce_port.specs.Sink.{GrewBy, Rose}
-use Rattle.ce_port.specs.WriteAll.{GrewByPrefix}
 use Rattle.ce_port.proofs.Paging.{GrewBy-none, whole-prefix}
 use Rattle.core_entropy.specs.Calls.{CallsFor, IsAbove, IsInput, IsToldInput}
 use Rattle.core_entropy.specs.Input.{IsReadStatus}

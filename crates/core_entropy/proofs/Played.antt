@@ -1,30 +1,25 @@
 -- Events that were played, and scripts for the rows of an orbit.
-use Rattle.std.proofs.Common.{◌≡◌, ◌<◌, ◌≤◌, ◌*◌, ◌^◌, ◌++◌, ◌+◌, ◌∙◌, ℕ, List, length, take, refl, sym, ap, subst}
-use Rattle.std.proofs.Common.{arith, Result, String, Global, string_bytes}
-use Rattle.std.specs.Prelude.{All, slice_index_or, IfOk}
+use Rattle.std.proofs.Common.{◌≡◌, ◌<◌, ◌≤◌, ◌*◌, ◌^◌, ◌∙◌, ℕ, List, length, refl, ap, subst}
+use Rattle.std.proofs.Common.{arith}
+use Rattle.std.specs.Prelude.{All}
 use Rattle.std.proofs.lemmas.List.{length-map}
-use Rattle.std.proofs.lemmas.Result.{IfOk-weaker}
-use Rattle.ce_angle.specs.Fraction.{Fraction}
 use Rattle.std.proofs.lemmas.List.Elements.{All-weaker}
-use Rattle.std.proofs.lemmas.List.Sums.{fold_more}
 use Rattle.ce_cert.specs.Start.{IsStart}
 use Rattle.ce_cert.specs.Vectors.{IsVectorOf}
 use Rattle.ce_comp.proofs.Rankings.{numbering_is_ranking}
-use Rattle.ce_core.specs.Machine.{Machine, after_event, machine_at_start}
+use Rattle.ce_core.specs.Machine.{machine_at_start}
 use Rattle.ce_core.specs.Runs.{after_events, shared_after}
 use Rattle.ce_core.specs.Script.{IsEventBelow, IsFirstBad, IsScriptOf}
 use Rattle.ce_core.specs.Sound.{IsSound}
 use Rattle.ce_core.specs.State.{CoreState}
 use Rattle.ce_core.proofs.Runs.{sound_after}
 use Rattle.ce_orbit.specs.Orbit.{ForwardOrbit, IsForwardOrbit, HasOrbitWithin}
-use Rattle.ce_rows.specs.Events.{Shared, actor_of}
-use Rattle.ce_rows.specs.Rows.{ScaledRows, AreRows, AreScaledRows, EnclosesRows, all_walks}
+use Rattle.ce_rows.specs.Events.{actor_of}
+use Rattle.ce_rows.specs.Rows.{ScaledRows, EnclosesRows}
 use Rattle.ce_rows.specs.declared.event.Event.{Event}
 use Rattle.ce_rows.specs.declared.row.Row.{Row}
-use Rattle.ce_rows.specs.declared.no_memory.NoMemory.{NoMemory}
 use Rattle.ce_rows.specs.declared.interval.Interval.{Interval}
 use Rattle.ce_thurston.specs.Indices.{rows_of_orbit}
-use Rattle.ce_thurston.specs.Pairs.{pair_walks}
 use Rattle.ce_vector.specs.PowerIteration.{power_vector}
 use Rattle.ce_vector.specs.Start.{doublings, scaled_up, start_of}
 use Rattle.ce_vector.proofs.Powers.{length-power_vector, power_vector-some, power_vector-small}

@@ -1,8 +1,8 @@
 -- The task of the command `probe`.
-use Rattle.std.proofs.Common.{◌≡◌, ◌≢◌, ◌<◌, ◌≤◌, ◌+◌, ◌-◌, ◌*◌, ◌^◌, ◌==◌, ◌++◌, get_or, take, ◌∷◌, ◌∙◌, ℕ, zero, suc}
+use Rattle.std.proofs.Common.{◌≡◌, ◌≢◌, ◌<◌, ◌≤◌, ◌+◌, ◌-◌, ◌*◌, ◌^◌, ◌==◌, ◌++◌, get_or, take, ◌∷◌, ◌∙◌, ℕ, suc}
 use Rattle.std.proofs.Common.{Bool, true, false, List, [], Result, String, Global, length, map, refl, sym, ap, subst}
 use Rattle.std.proofs.Common.{arith, string_bytes}
-use Rattle.std.specs.Prelude.{All, IfOk, fold, max, min, sum_by}
+use Rattle.std.specs.Prelude.{All, IfOk, max, min, sum_by}
 use Rattle.std.specs.List.{AllZip}
 use Rattle.std.proofs.lemmas.Grind.{fold-append}
 use Rattle.std.proofs.Math.ListN.{get_or-map}
@@ -13,7 +13,7 @@ use Rattle.std.proofs.lemmas.List.FromFn.{length-map-range_with_len}
 use Rattle.std.proofs.lemmas.List.Sums.{sum_by-append}
 use Rattle.std.proofs.lemmas.Result.{IfOk-weaker}
 use Rattle.ce_angle.specs.Fraction.{Fraction}
-use Rattle.ce_cert.specs.Quotients.{greatest, high_of, least, low_of}
+use Rattle.ce_cert.specs.Quotients.{greatest, least}
 use Rattle.ce_comp.proofs.Rankings.{numbering_is_ranking}
 use Rattle.ce_log2.specs.Squaring.{bits_above_of, bits_below_of}
 use Rattle.ce_orbit.proofs.Unique.{one_orbit}
@@ -29,7 +29,6 @@ use Rattle.ce_solve.specs.declared.settings.Settings.{Settings}
 use Rattle.ce_sweep.specs.Probe.{probe_angle_of, probe_angles_of}
 use Rattle.ce_thurston.specs.Indices.{rows_at}
 use Rattle.ce_thurston.proofs.OrbitRows.{rows_in_range}
-use Rattle.ce_vector.specs.PowerIteration.{power_vector}
 use Rattle.core_entropy.specs.InitialEnclosure.{IsInitialEnclosure}
 use Rattle.core_entropy.specs.Headline.{IsTrueClaim}
 use Rattle.core_entropy.specs.Probe.{IsInitialOf, IsProbeText, highs, lows, probe_task, probe_text, summary_of, widths}

@@ -1,5 +1,5 @@
 -- The task of the command `replay`.
-use Rattle.std.proofs.Common.{◌≡◌, ◌≢◌, ◌<◌, ◌≤◌, ◌^◌, ◌==◌, ◌⊎◌, ◌∙◌, inl, inr, Bool, true, false, ℕ, List, [], ◌∷◌}
+use Rattle.std.proofs.Common.{◌≡◌, ◌≢◌, ◌<◌, ◌≤◌, ◌^◌, ◌==◌, ◌∙◌, inl, inr, Bool, true, false, ℕ, List, [], ◌∷◌}
 use Rattle.std.proofs.Common.{Option, Some, Result, Ok, Err, length, refl, sym, ap, subst, arith}
 use Rattle.std.specs.Prelude.{IfErr}
 use Rattle.std.proofs.lemmas.Bool.Decides.{nat_tests}
@@ -24,7 +24,7 @@ use Rattle.core_entropy.specs.Replay.{HasScript, HasBadLine, EndsByScript, IsRep
 use Rattle.core_entropy.specs.Replay.{replayed, script_limit, shared_interval}
 use Rattle.core_entropy.specs.Output.{HasEnded, Wrote}
 use Rattle.core_entropy.specs.Status.{IsCalledFor, IsOfWriting, ended_with, of_script}
-use Rattle.core_entropy.specs.Task.{Unless, solved}
+use Rattle.core_entropy.specs.Task.{solved}
 use Rattle.core_entropy.specs.declared.status.Status.{Status}
 use Rattle.core_entropy.specs.declared.status.Status.TheVariants.{Done, OrbitTooLong, BadEvent, NoMemory}
 use Rattle.ce_core.specs.declared.script.ScriptError.{ScriptError}

@@ -1,10 +1,9 @@
 -- Lines that go to a page, one after another.
-use Rattle.std.proofs.Common.{◌≡◌, ◌<◌, ◌≤◌, ◌+◌, ◌++◌, ◌∷◌, [], ◌∙◌, ℕ, List, Option, Some, length, take, drop, refl}
+use Rattle.std.proofs.Common.{◌≡◌, ◌<◌, ◌≤◌, ◌+◌, ◌++◌, ◌∷◌, [], ◌∙◌, ℕ, List, Option, length, take, drop}
 use Rattle.std.proofs.Common.{sym, ap, subst, append_assoc}
-use Rattle.std.specs.List.{flat_map, slice_get}
+use Rattle.std.specs.List.{flat_map}
 use Rattle.std.proofs.lemmas.Grind.{flat_map-append}
 use Rattle.std.proofs.lemmas.List.{take-append-drop, take_all, flat_map_more}
-use Rattle.ce_port.specs.Sink.{GrewBy}
 use Rattle.ce_port.specs.WriteAll.{GrewByPrefix}
 use Rattle.ce_port.specs.Pieces.{GrewAllBut}
 use Rattle.ce_port.proofs.Paging.{page-more, page-part, page-stays, page-turned, prefix-more}

@@ -1,9 +1,8 @@
 -- The walk over a good map, and its text in version 2.
-use Rattle.std.proofs.Common.{◌≡◌, ◌<◌, ◌≤◌, ◌+◌, ◌*◌, ◌++◌, ◌∷◌, ◌⊎◌, ◌∙◌, inl, inr, ℕ, List, [], Option, length}
-use Rattle.std.proofs.Common.{get_or, take, drop, map, refl, sym, ap, subst, arith, append_assoc}
-use Rattle.std.specs.Prelude.{All}
+use Rattle.std.proofs.Common.{◌≡◌, ◌<◌, ◌≤◌, ◌+◌, ◌*◌, ◌++◌, ◌∷◌, ◌∙◌, ℕ, List, [], Option, length}
+use Rattle.std.proofs.Common.{get_or, drop, map, sym, ap, subst, arith, append_assoc}
 use Rattle.std.specs.List.{flat_map}
-use Rattle.std.proofs.Math.Nat.{mul-le-mul_left, mul-le-mul_right}
+use Rattle.std.proofs.Math.Nat.{mul-le-mul_left}
 use Rattle.std.proofs.lemmas.List.{drop_more, length-map}
 use Rattle.std.proofs.lemmas.List.Elements.{All-head, All-tail}
 use Rattle.ce_angle.specs.Farey.{AreAnglesUpTo}
@@ -15,11 +14,10 @@ use Rattle.ce_check.specs.Verdicts.{HasGoodMap}
 use Rattle.ce_check.specs.declared.verdict.Verdict.TheVariants.{Accepted}
 use Rattle.ce_check.proofs.OneFront.{unfit_no_item}
 use Rattle.ce_check.proofs.SomeVerdict.{few_order}
-use Rattle.ce_map.specs.Grammar.{Header, IsHeader, IsItem, IsMapOf, Item, end_line, header_line, item_text}
-use Rattle.ce_map.specs.Views.{IsShown, Shows}
+use Rattle.ce_map.specs.Grammar.{Header, IsItem, IsMapOf, Item, end_line, header_line, item_text}
+use Rattle.ce_map.specs.Views.{Shows}
 use Rattle.ce_map.specs.Walk.{IsEndStep, IsHeaderStep, IsItemStep, IsUnfitLine, Walk, left_of, start_of}
 use Rattle.ce_map.specs.declared.record_view.RecordView.{RecordView}
-use Rattle.ce_map.specs.declared.view.Stage.{Stage}
 use Rattle.ce_map.specs.declared.view.Stage.TheVariants.{Parts, Start}
 use Rattle.ce_map.proofs.Unique.{no_end, one_header, one_item}
 use Rattle.ce_port.specs.Pieces.{GrewAllBut}

@@ -1,64 +1,35 @@
 -- The task of the command `watch`.
-use Rattle.std.proofs.Common.{◌≡◌, ◌<◌, ◌≤◌, ◌^◌, ◌*◌, ◌+◌, ◌++◌, ◌∷◌, ◌∙◌, ◌⊎◌, inl, inr, ℕ, List, [], Option, length}
-use Rattle.std.proofs.Common.{map, refl, sym, ap, subst, arith}
+use Rattle.std.proofs.Common.{◌≡◌, ◌≤◌, ◌∷◌, ◌∙◌, inr, ℕ, List, [], Option, length}
+use Rattle.std.proofs.Common.{map, refl, ap, subst}
 use Rattle.std.specs.Prelude.{All}
-use Rattle.std.specs.List.{flat_map}
-use Rattle.std.proofs.Math.Nat.{mul-le-mul_left, pow-le-pow_left}
 use Rattle.std.proofs.lemmas.List.Elements.{All-append, All-cons, All-nil}
 use Rattle.ce_angle.specs.Fraction.{Fraction, IsAngle}
 use Rattle.ce_cert.proofs.Enclose.{certificate_encloses}
 use Rattle.ce_live.specs.declared.reading.Reading.{Reading}
-use Rattle.ce_orbit.specs.Orbit.{ForwardOrbit, HasOrbitAbove, HasOrbitWithin, IsForwardOrbit}
-use Rattle.ce_port.specs.Pieces.{GrewAllBut}
-use Rattle.ce_port.specs.Sink.{GrewBy}
-use Rattle.ce_port.specs.WriteAll.{GrewByPrefix}
-use Rattle.ce_rows.specs.Growth.{Encloses, IsGrowthLowerBound, IsGrowthUpperBound}
-use Rattle.ce_rows.specs.Rows.{AreScaledRows, EnclosesRows, ScaledRows}
+use Rattle.ce_orbit.specs.Orbit.{ForwardOrbit, HasOrbitWithin, IsForwardOrbit}
+use Rattle.ce_rows.specs.Growth.{Encloses}
+use Rattle.ce_rows.specs.Rows.{AreScaledRows, ScaledRows}
 use Rattle.ce_rows.specs.Scale.{IsExponent}
-use Rattle.ce_rows.specs.declared.interval.Interval.{Interval}
 use Rattle.ce_solve.specs.SolvedRows.{AreReadingsFrom, Closing, IsSolved}
 use Rattle.ce_thurston.specs.Indices.{rows_at}
 use Rattle.ce_thurston.specs.Pairs.{pair_walks}
 use Rattle.ce_thurston.proofs.OrbitRows.{rows_in_range}
 use Rattle.ce_words.specs.Logs.{Each}
 use Rattle.ce_words.specs.Steps.{LiesInside}
-use Rattle.core_entropy.specs.Angle.{interval_of, line_of}
+use Rattle.core_entropy.specs.Angle.{interval_of}
 use Rattle.core_entropy.specs.Calls.{CallsFor}
 use Rattle.core_entropy.specs.Headline.{ClaimsTruly, IsTrueClaim}
-use Rattle.core_entropy.specs.Output.{GrewByPart, HasEnded, Wrote}
+use Rattle.core_entropy.specs.Output.{HasEnded, Wrote}
 use Rattle.core_entropy.specs.Status.{IsEndOfAnswer}
-use Rattle.core_entropy.specs.Task.{Claim}
-use Rattle.core_entropy.specs.Watch.{IsWatchText, reading_claim, reading_line, watch_task, watch_text}
+use Rattle.core_entropy.specs.Watch.{IsWatchText, reading_claim, watch_task, watch_text}
 use Rattle.core_entropy.specs.declared.status.Status.{Status}
 use Rattle.core_entropy.specs.declared.status.Status.TheVariants.{Done}
 use Rattle.core_entropy.proofs.DegreeClaims.{doubling_true}
 use Rattle.core_entropy.proofs.AngleTask.{inside_initial, one_true, orbit_called, orbit_one, orbit_some, short_done}
+use Rattle.ce_solve.proofs.Enclosing.{widened}
 use Rattle.core_entropy.proofs.Enclosed.{pairs_enclosed}
-use Rattle.core_entropy.proofs.Ended.{answered, wrote_weaker}
+use Rattle.core_entropy.proofs.Ended.{answered}
 use Rattle.core_entropy.proofs.Stages.{IsLawful}
-
--- What contains an interval that encloses does too.
-widened : (exponent : ℕ) (count : ℕ → ℕ) (low high from to : ℕ) → from ≤ low → high ≤ to
-    → Encloses exponent count low high → Encloses exponent count from to
-unfolding IsGrowthLowerBound IsGrowthUpperBound
-widened exponent count low high from to below above h = record {
-  below = (
-    h.below.0,
-    h.below.1,
-    λ n. let less = pow-le-pow_left {n = from} {m = low} below n in
-        omega (arith, less, h.below.2 n),
-  );
-  above = (
-    h.above.0,
-    h.above.1,
-    h.above.2,
-    λ n.
-        let less = pow-le-pow_left {n = high} {m = to} above n in
-        let more : h.above.0 * (n + 1) ^ h.above.1 * high ^ n ≤ h.above.0 * (n + 1) ^ h.above.1 * to ^ n =
-        mul-le-mul_left (h.above.0 * (n + 1) ^ h.above.1) less in
-        omega (arith, more, h.above.3 n),
-  );
-}
 
 module _ (angle : Fraction) (exponent : ℕ) (o : ForwardOrbit) (is_orbit : IsForwardOrbit o) (of_angle : o.angle ≡ angle)
     (low high : ℕ) (encloses : Encloses exponent (pair_walks o) low high) where

@@ -1,8 +1,8 @@
 -- The command `show`: an orbit with its kneading sequence and its transition matrix. Source: this
 -- project's choice.
-use Rattle.std.specs.Prelude.{◌≡◌, ℕ, List, [], ◌∷◌, ◌++◌, None, length, map, codes}
+use Rattle.std.specs.Prelude.{◌≡◌, ℕ, List, [], ◌∷◌, ◌++◌, None, length, codes}
 use Rattle.std.specs.Fmt.{decimal}
-use Rattle.std.specs.List.{flat_map, range_with_len}
+use Rattle.std.specs.List.{flat_map}
 use Rattle.ce_angle.specs.Fraction.{Fraction}
 use Rattle.ce_angle.specs.LowestTerms.{in_lowest_terms}
 use Rattle.ce_orbit.specs.Orbit.{ForwardOrbit, IsForwardOrbit, HasOrbitAbove, period_of}

@@ -1,10 +1,8 @@
 // What a command reads.
-ghost use Rattle.std.specs.Prelude.{◌≡◌, ◌≤◌, ◌+◌, length, IfOk, IfErr, Some};
-ghost use Rattle.ce_port.specs.ReadAll.{Gave};
+ghost use Rattle.std.specs.Prelude.{◌≤◌, length, IfOk, IfErr, Some};
 ghost use Rattle.core_entropy.specs.Calls.{IsInput};
 ghost use Rattle.core_entropy.specs.Input.{IsReadStatus};
 ghost use Rattle.core_entropy.specs.Output.{HasRead};
-ghost use Rattle.core_entropy.specs.Status.{ended_with};
 ghost use Rattle.core_entropy.specs.declared.status.Status.{Status};
 
 use crate::status::Status;

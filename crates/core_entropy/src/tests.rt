@@ -3,7 +3,7 @@ ghost use Rattle.std.specs.Prelude.{◌≤◌};
 
 use crate::run::run_command;
 use crate::status::Status;
-use ce_port::{MemSink, MemSource, Sink, Source, SureSink, SureSource};
+use ce_port::{MemSink, MemSource, Sink, SureSink, SureSource};
 use ce_words::FreeGate;
 use std::alloc::Global;
 use std::marker::Sync;

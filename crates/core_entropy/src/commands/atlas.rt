@@ -1,5 +1,5 @@
 // The command `atlas`: the table of the classes of all angles up to an order.
-ghost use Rattle.std.specs.Prelude.{◌≡◌, ◌≤◌, [], IfOk};
+ghost use Rattle.std.specs.Prelude.{◌≤◌, [], IfOk};
 ghost use Rattle.ce_rows.specs.Scale.{IsExponent};
 ghost use Rattle.core_entropy.specs.Atlas.{IsAtlasText, atlas_task};
 ghost use Rattle.core_entropy.specs.Output.{HasEnded};

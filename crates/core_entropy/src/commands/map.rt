@@ -1,6 +1,6 @@
 // The command `map`: the certificates of all angles up to an order.
 ghost use Rattle.std.specs.Prelude.{◌≡◌, ◌≤◌, ◌<◌, ◌++◌, ◌^◌, List, [], All, IfErr, OnErr, OnOk};
-ghost use Rattle.std.specs.Prelude.{IfOk, length};
+ghost use Rattle.std.specs.Prelude.{length};
 ghost use Rattle.std.specs.List.{flat_map};
 ghost use Rattle.ce_angle.specs.Farey.{AreAnglesUpTo, IsAngleUpTo};
 ghost use Rattle.ce_map.specs.Grammar.{Item, end_line, item_text};

@@ -1,6 +1,5 @@
 // The command `part`: the certificates at some places of the list of all angles up to an order.
-ghost use Rattle.std.specs.Prelude.{◌≡◌, ◌≤◌, ◌<◌, ◌^◌, [], All, IfErr, IfOk, length};
-ghost use Rattle.ce_angle.specs.Farey.{IsAngleUpTo};
+ghost use Rattle.std.specs.Prelude.{◌≤◌, [], IfErr, IfOk};
 ghost use Rattle.ce_rows.specs.Scale.{IsExponent};
 ghost use Rattle.ce_sweep.specs.Answers.{AreSolvedBy};
 ghost use Rattle.core_entropy.specs.Output.{HasEnded, Wrote};

@@ -3,8 +3,8 @@ ghost use Rattle.std.specs.Prelude.{◌≡◌, ◌≤◌, ◌∷◌, ◌++◌, �
 ghost use Rattle.std.specs.List.{flat_map};
 ghost use Rattle.ce_check.specs.Verdicts.{HasGoodMap};
 ghost use Rattle.ce_check.specs.declared.verdict.Verdict.TheVariants as verdict;
-ghost use Rattle.ce_map.specs.Grammar.{Header, IsMapOf, Item, header_line, item_text};
-ghost use Rattle.ce_map.specs.Views.{IsShown, Shows};
+ghost use Rattle.ce_map.specs.Grammar.{Header, IsMapOf, Item, item_text};
+ghost use Rattle.ce_map.specs.Views.{Shows};
 ghost use Rattle.ce_map.specs.Walk.{start_of};
 ghost use Rattle.ce_port.specs.Pieces.{GrewAllBut};
 ghost use Rattle.ce_port.specs.WriteAll.{GrewByPrefix};

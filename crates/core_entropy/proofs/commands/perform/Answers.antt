@@ -1,4 +1,4 @@
-use Rattle.std.proofs.Common.{List, [], ℕ, ap, refl}
+use Rattle.std.proofs.Common.{[], ap, refl}
 use Rattle.core_entropy.specs.Checked.{map_limit}
 use Rattle.core_entropy.specs.Replay.{script_limit}
 use Rattle.core_entropy.specs.Status.{ended_with}

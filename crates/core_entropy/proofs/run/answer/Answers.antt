@@ -17,6 +17,7 @@ returns-in_err-command-clause-ended g c =
 
 pub returns-clause-taken : goal.returns-clause-taken
 returns-clause-taken g c = λ good none no_desk usage.
-    c.perform.ensures.meant (λ beyond. none (c.in_ok-command.command, c.in_ok-command.ensures.command, beyond))
-    (λ desk. no_desk (any_desk (map string_bytes c.args.words.now) c.in_ok-command.command c.in_ok-command.ensures.command
-    desk)) usage
+    let list = map string_bytes c.args.words.now in
+    let means = c.in_ok-command.ensures.command in
+    c.perform.ensures.meant (λ beyond. none (c.in_ok-command.command, means, beyond))
+    (λ desk. no_desk (any_desk list c.in_ok-command.command means desk)) usage

@@ -2,7 +2,7 @@ use Rattle.std.proofs.Common.{map, string_bytes}
 use Rattle.core_entropy.specs.Table.{task_asked}
 use Rattle.core_entropy.specs.Status.{ended_with}
 use Rattle.core_entropy.proofs.Lawful.{words_lawful}
-use Rattle.core_entropy.proofs.Outcomes.{complete, headline, refused}
+use Rattle.core_entropy.proofs.Outcomes.{complete, headline}
 use Rattle.core_entropy.proofs.run.run_command.Goals as goal
 
 pub returns-clause-headline : goal.returns-clause-headline

@@ -1,4 +1,4 @@
-use Rattle.std.proofs.Common.{◌≡◌, ◌≤◌, ◌<◌, ◌∙◌, ◌++◌, ℕ, List, ap, arith, get_or, length, subst, sym}
+use Rattle.std.proofs.Common.{◌<◌, arith, get_or, length}
 use Rattle.std.proofs.lemmas.List.{take_more}
 use Rattle.ce_map.specs.Grammar.{item_text}
 use Rattle.core_entropy.specs.MapInside.{no_item}

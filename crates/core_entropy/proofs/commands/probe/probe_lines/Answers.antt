@@ -1,4 +1,4 @@
-use Rattle.std.proofs.Common.{◌≡◌, ℕ, refl}
+use Rattle.std.proofs.Common.{refl}
 use Rattle.ce_solve.specs.declared.settings.Settings.{Settings}
 use Rattle.core_entropy.proofs.ProbeTask.{probe_bounded, probe_few, probe_is}
 use Rattle.core_entropy.proofs.commands.probe.probe_lines.Goals as goal

@@ -1,8 +1,7 @@
-use Rattle.std.proofs.Common.{List, ℕ, refl, subst, sym}
+use Rattle.std.proofs.Common.{ℕ, refl, subst, sym}
 use Rattle.ce_core.specs.Script.{IsScriptOf}
 use Rattle.ce_core.specs.Refusals.{IsRefusal}
 use Rattle.ce_core.specs.declared.script.ScriptError.{ScriptError}
-use Rattle.core_entropy.specs.Output.{Wrote}
 use Rattle.core_entropy.specs.Replay.{IsReplayText, replay_task}
 use Rattle.core_entropy.specs.Status.{ended_with, of_script}
 use Rattle.core_entropy.proofs.Ended.{ended_by, wrote_weaker}

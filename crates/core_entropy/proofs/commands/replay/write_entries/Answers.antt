@@ -1,4 +1,4 @@
-use Rattle.std.proofs.Common.{◌≡◌, ◌<◌, ◌≤◌, length, string_bytes, arith}
+use Rattle.std.proofs.Common.{string_bytes, arith}
 use Rattle.core_entropy.proofs.Ended.{on_err}
 use Rattle.core_entropy.proofs.ReplayWritten.{line_more, line_stays, line_turned}
 use Rattle.core_entropy.proofs.commands.replay.write_entries.Goals as goal

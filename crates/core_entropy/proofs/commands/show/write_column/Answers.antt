@@ -1,4 +1,4 @@
-use Rattle.std.proofs.Common.{◌≡◌, ◌<◌, ◌≤◌, ap, length, string_bytes, sym, arith}
+use Rattle.std.proofs.Common.{ap, length, string_bytes, sym, arith}
 use Rattle.ce_thurston.specs.Indices.{pairs_below}
 use Rattle.core_entropy.specs.Show.{pair_line, row_line}
 use Rattle.core_entropy.proofs.Ended.{on_err}

@@ -1,4 +1,4 @@
-use Rattle.std.proofs.Common.{◌≡◌, ◌≤◌, ◌++◌, take, string_bytes}
+use Rattle.std.proofs.Common.{◌≤◌, string_bytes}
 use Rattle.ce_port.specs.Pieces.{GrewAllBut}
 use Rattle.ce_thurston.specs.Indices.{pairs_below}
 use Rattle.core_entropy.specs.Show.{pair_line}

@@ -1,4 +1,4 @@
-use Rattle.std.proofs.Common.{◌≡◌, ◌<◌, ◌≤◌, string_bytes, arith}
+use Rattle.std.proofs.Common.{string_bytes, arith}
 use Rattle.core_entropy.proofs.Ended.{on_err}
 use Rattle.core_entropy.proofs.ShowPlaces.{columns_more, columns_part}
 use Rattle.core_entropy.proofs.commands.show.write_columns.Goals as goal

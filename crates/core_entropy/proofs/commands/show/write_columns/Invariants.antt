@@ -1,5 +1,4 @@
-use Rattle.std.proofs.Common.{◌≡◌, ◌≤◌, ◌++◌, string_bytes}
-use Rattle.std.specs.List.{flat_map}
+use Rattle.std.proofs.Common.{◌≤◌, string_bytes}
 use Rattle.ce_port.specs.Pieces.{GrewAllBut}
 use Rattle.core_entropy.proofs.ShowPlaces.{columns}
 use Rattle.core_entropy.proofs.commands.show.write_columns.Given as goal

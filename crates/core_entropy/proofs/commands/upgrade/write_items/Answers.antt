@@ -1,9 +1,6 @@
-use Rattle.std.proofs.Common.{◌≡◌, ◌≤◌, ◌<◌, ◌+◌, ◌∙◌, ℕ, List, arith, drop, get_or, length, refl, subst}
-use Rattle.std.proofs.lemmas.List.{append-nil, take_more}
-use Rattle.ce_map.specs.Grammar.{Item, item_text}
-use Rattle.ce_map.specs.Views.{Shows}
-use Rattle.ce_port.proofs.Paging.{GrewAllBut-none}
-use Rattle.core_entropy.specs.UpgradeInside.{AreLeft}
+use Rattle.std.proofs.Common.{◌<◌, ◌+◌, arith, drop, get_or, length, refl}
+use Rattle.std.proofs.lemmas.List.{take_more}
+use Rattle.ce_map.specs.Grammar.{item_text}
 use Rattle.core_entropy.proofs.Ended.{on_err}
 use Rattle.core_entropy.proofs.Rows.{all_done, item_more, part_stays, part_turned}
 use Rattle.core_entropy.specs.MapInside.{no_item}

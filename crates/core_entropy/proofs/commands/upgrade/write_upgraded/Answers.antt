@@ -1,4 +1,4 @@
-use Rattle.std.proofs.Common.{◌≡◌, ◌≤◌, ◌++◌, ◌∙◌, ℕ, List, ap, arith, inl, inr, length, refl, subst, sym}
+use Rattle.std.proofs.Common.{◌≡◌, ◌++◌, ◌∙◌, ℕ, List, ap, arith, inr, length, subst}
 use Rattle.ce_check.proofs.SomeVerdict.{few_order}
 use Rattle.ce_map.specs.Grammar.{end_line}
 use Rattle.ce_port.specs.Sink.{GrewBy}

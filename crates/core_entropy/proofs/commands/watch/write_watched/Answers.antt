@@ -1,4 +1,4 @@
-use Rattle.std.proofs.Common.{◌≡◌, ◌++◌, List, ℕ, [], ap, inr, string_bytes, subst}
+use Rattle.std.proofs.Common.{◌≡◌, ◌++◌, List, ℕ, ap, inr, string_bytes, subst}
 use Rattle.std.specs.List.{flat_map}
 use Rattle.ce_port.specs.Sink.{GrewBy}
 use Rattle.ce_port.specs.WriteAll.{GrewByPrefix}

@@ -1,7 +1,7 @@
 -- In reading order: the headline; what a task is, and the table of the commands; the initial
--- enclosure, and the task of each command; which status is called for, what is read and written, and
--- the statuses with their lines. What loops keep, and what fields stand for, is in the files named
--- Inside.
+-- enclosure, and the task of each command; which status is called for, what is read and written, the
+-- statuses with their lines, and the words of the start. What loops keep, and what fields stand for,
+-- is in the files named Inside.
 pub mod Headline
 pub mod Task
 pub mod Table
@@ -23,6 +23,7 @@ pub mod Calls
 pub mod Output
 pub mod Status
 pub mod Input
+pub mod Words
 pub mod MapInside
 pub mod UpgradeInside
 pub mod ProbeInside

@@ -37,12 +37,7 @@ use ce_words::FreeGate;
 use desk::run_desk;
 use run::{run_command, tell};
 use std::process::ExitCode;
-use words::program_words;
-
-// Whether words begin with the name of the desk, which owns its streams while it runs.
-fn begin_with_desk(words: &[String]) -> bool {
-    matches!(words.first(), Some(first) if first.as_str() == "desk")
-}
+use words::{begin_with_desk, program_words};
 
 fn main(rt: HostRuntime) -> ExitCode {
     let mut source = StdSource::new(rt.stdin());

@@ -12,6 +12,8 @@
 
 mod commands;
 mod desk;
+#[cfg(test)]
+mod desk_tests;
 mod error_line;
 mod input;
 mod laws;

@@ -50,9 +50,8 @@ impl<S: Source> LineReader<S> {
         }
     }
 
-    /// The length of the next line, which then stands at the front of `line`; nothing where it is a
-    /// line that has more
-    /// than 64 bytes with its line feed, or where it has no line feed.
+    /// The length of the next line, which then stands at the front of `line`; nothing where it has
+    /// more than 64 bytes with its line feed, or where it has no line feed.
     pub fn next_line(&mut self) -> Result<Option<usize>, Stop>
         requires reader { IsReader self.old.bytes }
         ensures reader { IsReader self.new.bytes }

@@ -28,10 +28,10 @@ use Rattle.ce_solve.proofs.ReadingsAround.{readings_around}
 use Rattle.ce_words.proofs.Logs.{Widens, possible_more, in_part_none}
 use Rattle.ce_words.proofs.Seats.{greatest_as, least_as}
 use Rattle.ce_words.proofs.Sums.{Each-more}
-use Rattle.ce_words.specs.Logs.{is_raise, is_lower, is_ask, times, halts, total, by_place, in_part, stores, had, Each}
+use Rattle.ce_words.specs.Logs.{is_raise, is_lower, is_ask, is_stop, times, halts, total, by_place, in_part, stores, had, Each}
 use Rattle.ce_words.specs.Logs.{IsPossibleLog}
 use Rattle.ce_words.specs.Seats.{board_run}
-use Rattle.ce_words.specs.Steps.{IsSettled, LiesInside}
+use Rattle.ce_words.specs.Steps.{IsSettled, WasSet, LiesInside}
 use Rattle.ce_words.specs.Views.{view, viewed, kept, place, part, both_of, rows_of}
 use Rattle.ce_words.specs.declared.board.Board.{Board}
 use Rattle.ce_words.specs.declared.view.Part.{Part}
@@ -54,7 +54,8 @@ owns_none run e x p empty =
 
 module _ (b : Board) (slot : Slot) (first : Seat (Unit {0}) View) (w : Worker)
     (h : IsFirstOf b slot first) (d : IsDoneFor b slot w)
-    (low high : ℕ) (s : IsSettled (both_of (view first) (view w.seat)) low high) where
+    (low high : ℕ) (s : IsSettled (both_of (view first) (view w.seat)) low high)
+    (set : WasSet (both_of (view first) (view w.seat))) where
   abbrev run : Run
   run = (view first).run
 
@@ -144,6 +145,12 @@ module _ (b : Board) (slot : Slot) (first : Seat (Unit {0}) View) (w : Worker)
     logs = (tt, (possible there k.logs.1.0, (possible here k.logs.0, tt)));
   }
 
+  set_apart : WasSet joined
+  set_apart many =
+      let set_known : WasSet known = subst WasSet known_is set in
+      let was = set_known (omega (arith, many, sum_same (λ p. halts p.log) refl)) in
+      omega (arith, was, sum_same (λ p. times is_stop 1 p.log) refl)
+
   whole_part : there.part ≡ part_of (length (board_run b).rows) 1 0
   whole_part =
       let n = length (board_run b).rows in
@@ -161,7 +168,8 @@ module _ (b : Board) (slot : Slot) (first : Seat (Unit {0}) View) (w : Worker)
 
   pub run_is : IsRun slot.run slot.turns (there ∷ []) low high
   run_is = subst (λ (r : Run). IsRun r slot.turns (there ∷ []) low high) (sym h.run)
-      (is_run b d.beginning actors over told bare fresh h.sits.run low high settled_apart slot.turns all_turns parts)
+      (is_run b d.beginning actors over told bare fresh h.sits.run low high settled_apart set_apart slot.turns
+      all_turns parts)
 
   all_readings : readings_of actors ≡ readings_from 0 slot.told
   all_readings = append-nil (readings_from 0 slot.told)

@@ -1,6 +1,6 @@
 use Rattle.std.proofs.Common.{◌≡◌, ℕ, sym, subst, ◌∙◌, ap}
 use Rattle.atomic_table.specs.declared.shared.Seat.{Seat}
-use Rattle.ce_words.specs.Steps.{IsSettled}
+use Rattle.ce_words.specs.Steps.{IsSettled, WasSet}
 use Rattle.ce_words.specs.Views.{view, both_of}
 use Rattle.ce_words.specs.declared.view.View.{View}
 use Rattle.ce_desk.specs.DeskText.{Closes}
@@ -18,4 +18,5 @@ returns c = λ slot first done.
     subst (λ (n : ℕ). Closes slot (record { interval = record { low = low; high = high }; turns = n }))
     (sym c.done-turns.ensures)
     (closes c.args.board.now slot c.args.first.now c.args.worker first done low high s
+    (subst WasSet joined c.settled-interval.ensures.set)
     c.settled-interval.ensures.encloses)

@@ -36,7 +36,8 @@ pub two_digits : (n x y : ℕ) → 10 ≤ n → n < 100 → x ≡ digit_glyph fa
     → digits 10 false n ≡ x ∷ (y ∷ [])
 two_digits n x y some few first last =
     let front = digits_one 10 (omega arith) (omega arith) (n / 10) (omega arith) in
-    digits_more 10 (omega arith) (omega arith) (n / 10) (n % 10) n (omega arith) (omega arith) (omega arith) (omega arith)
+    digits_more 10 (omega arith) (omega arith) (n / 10) (n % 10) n (omega arith) (omega arith) (omega arith)
+    (omega arith)
     ∙ ap (λ l. l ++ digit_glyph false (n % 10) ∷ []) (front ∙ ap (λ g. g ∷ []) (sym first))
     ∙ ap (λ g. x ∷ (g ∷ [])) (sym last)
 
@@ -44,7 +45,8 @@ pub three_digits : (n x y z : ℕ) → 100 ≤ n → n < 1000 → x ≡ digit_gl
     → y ≡ digit_glyph false (n / 10 % 10) → z ≡ digit_glyph false (n % 10) → digits 10 false n ≡ x ∷ (y ∷ (z ∷ []))
 three_digits n x y z some few first second last =
     let front = two_digits (n / 10) x y (omega arith) (omega arith) first second in
-    digits_more 10 (omega arith) (omega arith) (n / 10) (n % 10) n (omega arith) (omega arith) (omega arith) (omega arith)
+    digits_more 10 (omega arith) (omega arith) (n / 10) (n % 10) n (omega arith) (omega arith) (omega arith)
+    (omega arith)
     ∙ ap (λ l. l ++ digit_glyph false (n % 10) ∷ []) front ∙ ap (λ g. x ∷ (y ∷ (g ∷ []))) (sym last)
 
 -- a text that grew goes on
@@ -56,9 +58,6 @@ ok_then (Ok x) P Q more h = more h
 ok_then (Err e) P Q more h = tt
 
 -- one piece after another
-pub pieces_two : (t w n u : List ℕ) → u ≡ (t ++ w) ++ n → u ≡ t ++ (w ++ n)
-pieces_two t w n u h = h ∙ append_assoc t w n
-
 pub pieces_three : (t w n f u : List ℕ) → u ≡ ((t ++ w) ++ n) ++ f → u ≡ t ++ (w ++ n ++ f)
 pieces_three t w n f u h = h ∙ regroup t w n f
   where
@@ -88,9 +87,6 @@ pieces_header t w v a o s e f u h = h ∙ regroup t w v a o s e f
     regroup : (t w v a o s e f : List ℕ)
         → (((t ++ (w ++ v)) ++ (a ++ o)) ++ (s ++ e)) ++ f ≡ t ++ (w ++ v ++ a ++ o ++ (s ++ e) ++ f)
     regroup t w v a o s e f = simp append_assoc
-
-pub pieces_end : (t w n f u : List ℕ) → u ≡ (t ++ (w ++ n)) ++ f → u ≡ t ++ (w ++ n ++ f)
-pieces_end t w n f u h = h ∙ append_assoc t (w ++ n) f
 
 pub pieces_item : (t a b c d u : List ℕ) → u ≡ (((t ++ a) ++ b) ++ c) ++ d → u ≡ t ++ concat (a ∷ b ∷ c ∷ d ∷ [])
 pieces_item t a b c d u h = h ∙ regroup t a b c d

@@ -36,9 +36,6 @@ abbrev pub end_then : ℕ → List ℕ → List ℕ
 end_then count rest = codes "end " ++ (decimal count ++ (codes "\n" ++ rest))
 
 -- pieces and what follows them
-regroup_two : (w f rest : List ℕ) → (w ++ f) ++ rest ≡ w ++ (f ++ rest)
-regroup_two w f rest = append_assoc w f rest
-
 regroup_three : (w n f rest : List ℕ) → (w ++ n ++ f) ++ rest ≡ w ++ (n ++ (f ++ rest))
 regroup_three w n f rest = simp append_assoc
 

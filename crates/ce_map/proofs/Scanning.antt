@@ -6,9 +6,39 @@ use Rattle.std.specs.Prelude.{nat_lt, MatchOption, map}
 use Rattle.std.specs.List.{range_with_len}
 use Rattle.std.proofs.lemmas.List.FromFn.{get_or-map-range_with_len}
 use Rattle.std.proofs.lemmas.Bool.Decides.{nat_tests}
+use Rattle.std.proofs.lemmas.Grind.{pow_more}
 use Rattle.ce_map.specs.DigitsInside.{digit_in, digits_front, in_range, is_plain, number_front}
-use Rattle.std.proofs.Math.Nat.{mul-le-mul_left}
-use Rattle.ce_map.proofs.DigitValues.{front_ge}
+use Rattle.std.proofs.Math.Nat.{mul-le-mul_left, pow-le-pow_right}
+use Rattle.ce_map.proofs.DigitValues.{front_ge, front_plain, not_zero}
+
+pub within_range : (v : ℕ) (rest : List ℕ) → v < 2 ^ 62 → in_range (v, rest) ≡ Some (v, rest)
+within_range v rest small =
+    let test : nat_lt v (2 ^ 62) ≡ true = grind (arith, nat_tests) in
+    ap (λ t. cond t (Some (v, rest)) None) test
+
+-- the digit 0 is one byte alone
+zero_by : (t : Bool) (c : ℕ) → (c == 48) ≡ t → digit_in c ≡ 0 → c ≡ 48
+zero_by true c e h = grind (arith, nat_tests)
+zero_by false c e h = absurd (omega (arith, not_zero c e, h))
+
+pub zero_byte : (c : ℕ) → digit_in c ≡ 0 → c ≡ 48
+zero_byte c h = zero_by (c == 48) c refl h
+
+pub other_byte : (c : ℕ) → digit_in c ≢ 0 → c ≢ 48
+other_byte c h same = h (ap digit_in same)
+
+-- a few digits make a small number
+pub few_more : (v d radix i : ℕ) → v < 16 ^ (i + 1) → radix ≤ 16 → d < radix → v * radix + d < 16 ^ ((i + 1) + 1)
+few_more v d radix i small high h = omega (arith, mul-le-mul_left v high, pow_more 16 (i + 1))
+
+pub few_small : (v i : ℕ) → i < 4 → v < 16 ^ (i + 1) → v < 2 ^ 16
+few_small v i few small =
+    let some : 0 < 16 = omega arith in
+    let most : i + 1 ≤ 4 = omega arith in
+    omega (arith, pow-le-pow_right some most)
+
+pub few_fit : (v radix i : ℕ) → i < 4 → v < 16 ^ (i + 1) → radix ≤ 16 → v * radix ≤ 2 ^ 20
+few_fit v radix i few small high = omega (arith, few_small v i few small, mul-le-mul_left v high)
 
 module _ (radix v : ℕ) (text : List ℕ) (i : ℕ) (within : i < length text) where
   here : drop i text ≡ get_or text i 0 ∷ drop (i + 1) text
@@ -97,6 +127,19 @@ module _ (radix c : ℕ) (cs : List ℕ) where
         digit_is h
         ∙ ap (λ t. cond t (cond (is_plain radix cs) (Some (0, cs)) None)
         (in_range (digits_front radix (digit_in c) cs))) test ∙ ap (λ t. cond t (Some (0, cs)) None) plain
+
+    pub one_digit : 10 ≤ radix → radix ≤ 16 → digit_in c < radix → is_plain radix cs ≡ true
+        → number_front radix text ≡ Some (digit_in c, cs)
+    one_digit low high h plain = one_by (c == 48) refl
+      where
+        one_by : (t : Bool) → (c == 48) ≡ t → number_front radix text ≡ Some (digit_in c, cs)
+        one_by true e =
+            let same : c ≡ 48 = grind (arith, nat_tests) in
+            head_zero true h same plain ∙ ap (λ d. Some (d, cs)) (sym (ap digit_in same))
+        one_by false e =
+            head_positive h (other_byte c (λ z. omega (arith, z, not_zero c e)))
+            ∙ ap in_range (front_plain radix low high (digit_in c) cs plain)
+            ∙ within_range (digit_in c) cs (omega arith)
 
 pub empty_front : (radix : ℕ) (text : List ℕ) → length text ≡ 0 → number_front radix text ≡ None
 unfolding number_front

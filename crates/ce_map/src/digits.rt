@@ -9,6 +9,10 @@ const MOST_BEFORE_DIGIT: u64 = 1 << 60;
 
 const LIMIT: u64 = 1 << 62;
 
+// So many digits after the first one are read with no test of their number: most numbers of a map
+// have no more.
+const FEW_DIGITS: usize = 4;
+
 /// The base that a list of numbers is written in.
 #[derive(Clone, Copy, Debug, PartialEq, Eq)]
 pub(crate) enum Base {
@@ -61,10 +65,9 @@ pub(crate) fn rest_of(text: &[u8], count: usize) -> &[u8]
     &text[count..]
 }
 
-// The number that the digits at the front make after a first one, if it is in range.
+// The number that the digits at the front make after those of a first one, if it is in range.
 #[inline(always)]
-fn number_after(first: u64, text: &[u8], radix: u64) -> Option<(u64, &[u8])>
-    requires first { first < 16 }
+fn number_on(first: u64, text: &[u8], radix: u64) -> Option<(u64, &[u8])>
     requires low { 10 ≤ radix }
     requires high { radix ≤ 16 }
     ensures { MatchOption result (in_range (digits_front radix first text.now) ≡ None)
@@ -82,6 +85,27 @@ fn number_after(first: u64, text: &[u8], radix: u64) -> Option<(u64, &[u8])>
         value = value * radix + digit;
     }
     within(value, rest_of(text, text.len()))
+}
+
+// The same after one digit, where some bytes follow. A few digits are in range.
+#[inline(always)]
+fn number_after(first: u64, text: &[u8], radix: u64) -> Option<(u64, &[u8])>
+    requires first { first < 16 }
+    requires low { 10 ≤ radix }
+    requires high { radix ≤ 16 }
+    requires some { 4 ≤ length text.now }
+    ensures { MatchOption result (in_range (digits_front radix first text.now) ≡ None)
+        (λ r. in_range (digits_front radix first text.now) ≡ Some (r.0, r.1.now)) }
+{
+    let mut value = first;
+    for i in 0..FEW_DIGITS {
+        let digit = digit_of(text[i]);
+        if digit >= radix {
+            return Some((value, rest_of(text, i)));
+        }
+        value = value * radix + digit;
+    }
+    number_on(value, rest_of(text, FEW_DIGITS), radix)
 }
 
 // A number, if it is in range.
@@ -108,10 +132,8 @@ fn begins_plain(text: &[u8], radix: u64) -> bool
     }
 }
 
-/// The number at the front of a text, and what is left: all digits there, without a leading zero,
-/// and below 2^62.
-#[inline(always)]
-pub(crate) fn number(text: &[u8], radix: u64) -> Option<(u64, &[u8])>
+// The number at the front of a text, which may be short.
+fn number_in_short(text: &[u8], radix: u64) -> Option<(u64, &[u8])>
     requires low { 10 ≤ radix }
     requires high { radix ≤ 16 }
     ensures { MatchOption result (number_front radix text.now ≡ None)
@@ -127,11 +149,37 @@ pub(crate) fn number(text: &[u8], radix: u64) -> Option<(u64, &[u8])>
         return None;
     }
     if byte != b'0' {
-        return number_after(first, rest, radix);
+        return number_on(first, rest, radix);
     }
     if begins_plain(rest, radix) {
         Some((0, rest))
     } else {
         None
     }
+}
+
+/// The number at the front of a text, and what is left: all digits there, without a leading zero,
+/// and below 2^62.
+#[inline(always)]
+pub(crate) fn number(text: &[u8], radix: u64) -> Option<(u64, &[u8])>
+    requires low { 10 ≤ radix }
+    requires high { radix ≤ 16 }
+    ensures { MatchOption result (number_front radix text.now ≡ None)
+        (λ r. number_front radix text.now ≡ Some (r.0, r.1.now)) }
+{
+    if text.len() <= FEW_DIGITS {
+        return number_in_short(text, radix);
+    }
+    let first = digit_of(text[0]);
+    if first >= radix {
+        return None;
+    }
+    let rest = rest_of(text, 1);
+    if begins_plain(rest, radix) {
+        return Some((first, rest));
+    }
+    if first == 0 {
+        return None;
+    }
+    number_after(first, rest, radix)
 }

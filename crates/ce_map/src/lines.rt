@@ -8,6 +8,16 @@ ghost use Rattle.ce_map.specs.HeadersInside.{header_in};
 use crate::fields::{field, word};
 use ce_rows::Scale;
 
+// The greatest order of a map, and of one of version 1.
+const MOST_ORDER: u64 = 128;
+
+const MOST_ORDER_OF_FIRST: u64 = 64;
+
+// The exponents of the two scales. Version 1 has the first one alone.
+const EXPONENT: u64 = 32;
+
+const FINE_EXPONENT: u64 = 48;
+
 /// The numbers of an item's first line.
 #[derive(Clone, Copy, Debug, PartialEq, Eq)]
 pub(crate) struct AngleLine {
@@ -66,11 +76,15 @@ fn header_of(version: u32, order: u64, exponent: u64, rest: &[u8]) -> Option<(He
         (λ r. header_if (record { version = version; order = order; exponent = exponent }) rest.now
         ≡ Some (header_in r.0, r.1.now)) }
 {
-    let most = if version == 1 { 64 } else { 128 };
+    let most = if version == 1 {
+        MOST_ORDER_OF_FIRST
+    } else {
+        MOST_ORDER
+    };
     if order == 0 || order > most {
         return None;
     }
-    if exponent != 32 && !(version == 2 && exponent == 48) {
+    if exponent != EXPONENT && !(version == 2 && exponent == FINE_EXPONENT) {
         return None;
     }
     let scale = Scale::new(exponent as u32)?;
@@ -91,7 +105,7 @@ fn header_of_first(text: &[u8]) -> Option<(HeaderLine, &[u8])>
         (λ r. first_version (codes "\n") text.now ≡ Some (header_in r.0, r.1.now)) }
 {
     let (order, rest) = field(text, b"\n")?;
-    header_of(1, order, 32, rest)
+    header_of(1, order, EXPONENT, rest)
 }
 
 // What follows the version in a header of version 2.

@@ -140,8 +140,8 @@ fn the_first_line_that_does_not_fit_is_named(rt: HostRuntime) -> Result<(), Fail
 
 #[test]
 fn entries_of_version_2_are_hexadecimal(rt: HostRuntime) -> Result<(), Fail> {
-    let text =
-        "angle 1/4 low 7158278826 high 7669584458\nranks 0 0 0\nlow 0 e 15 19\nhigh e 15 3fffffffffffffff\n";
+    let text = "angle 1/4 low 7158278826 high 7669584458\nranks 0 0 0\nlow 0 e 15 19\nhigh e 15 \
+        3fffffffffffffff\n";
     let mut view = MapView::items(text.as_bytes(), 0, 1, 2);
     let Step::Item(item) = view.next() else {
         return Err(Fail::from("no item"));

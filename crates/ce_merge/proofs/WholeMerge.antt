@@ -27,9 +27,6 @@ angles_up h parts good =
     good
 
 module _ (h : Header) (bytes : List ℕ) (entries : List Entry) (k : AreAllRead h bytes entries) where
-  pub order_some : 1 ≤ h.order
-  order_some = k.read.before.header.header.some
-
   pub are_entries : AreEntries h.order bytes entries
   are_entries = record {
     items = all_of k.read.parts;

@@ -29,12 +29,15 @@ pub(crate) enum Found {
     Refused { line: u64, cause: MergeCause },
 }
 
-// Where a part ends, or the flaw in it.
+// The place and the line after a part, or the line and the cause of the flaw in it.
 #[derive(Clone, Copy)]
 enum PartEnd {
-    Whole { at: usize, line: u64 },
-    Flawed { line: u64, cause: MergeCause },
+    Whole(usize, u64),
+    Flawed(u64, MergeCause),
 }
+
+// Keys of angles are in units of 2^-14.
+const KEY_BITS: u32 = 14;
 
 // A number for an angle up to 128: greater for a greater angle, and the same for the same alone,
 // since two such angles differ by at least 2^-14.
@@ -42,7 +45,7 @@ fn key_of(angle: Angle) -> u64
     requires { IsAngleUpTo 128 angle }
     ensures { result ≡ key_of angle }
 {
-    (u64::from(angle.num()) << 14) / u64::from(angle.den())
+    (u64::from(angle.num()) << KEY_BITS) / u64::from(angle.den())
 }
 
 // The cause that a flaw of a certificate is.
@@ -172,31 +175,15 @@ fn read_part(
                     last = key;
                     count += 1;
                 }
-                Err(cause) => {
-                    return Ok(PartEnd::Flawed {
-                        line: item.line,
-                        cause,
-                    });
-                }
+                Err(cause) => return Ok(PartEnd::Flawed(item.line, cause)),
             },
             Step::End { line, count: told } => {
                 if told != count {
-                    return Ok(PartEnd::Flawed {
-                        line,
-                        cause: MergeCause::Count,
-                    });
+                    return Ok(PartEnd::Flawed(line, MergeCause::Count));
                 }
-                return Ok(PartEnd::Whole {
-                    at: view.at(),
-                    line: line + 1,
-                });
+                return Ok(PartEnd::Whole(view.at(), line + 1));
             }
-            Step::Form { line } => {
-                return Ok(PartEnd::Flawed {
-                    line,
-                    cause: MergeCause::Form,
-                });
-            }
+            Step::Form { line } => return Ok(PartEnd::Flawed(line, MergeCause::Form)),
             Step::Header { .. } | Step::Tail { .. } | Step::Over => unreachable!(),
         }
     }
@@ -241,8 +228,8 @@ pub(crate) fn read_parts(
         let mut view = MapView::items(bytes, header.end, line + 1, 2);
         let end = read_part(alloc, &mut room, &mut view, order, scale, entries)?;
         match end {
-            PartEnd::Flawed { line, cause } => return Ok(Found::Refused { line, cause }),
-            PartEnd::Whole { at, line: next } => {
+            PartEnd::Flawed(line, cause) => return Ok(Found::Refused { line, cause }),
+            PartEnd::Whole(at, next) => {
                 if at == bytes.len() {
                     return Ok(Found::Good { order, scale });
                 }

@@ -1,5 +1,6 @@
 -- One more edge between components, and the edges of one more vertex.
-use Rattle.std.proofs.Common.{◌≡◌, ◌+◌, ◌<◌, ◌≤◌, ◌++◌, ◌∷◌, [], ◌∙◌, ℕ, List, length, get_or, inl, inr, refl, sym, ap, subst, arith}
+use Rattle.std.proofs.Common.{◌≡◌, ◌+◌, ◌<◌, ◌≤◌, ◌++◌, ◌∷◌, [], ◌∙◌, ℕ, List, length, get_or, inl, inr, refl, sym}
+use Rattle.std.proofs.Common.{ap, subst, arith}
 use Rattle.std.specs.List.{All, Contains}
 use Rattle.std.proofs.lemmas.Bool.{cases_lt}
 use Rattle.std.proofs.lemmas.List.{get_or_append_left, get_or_push, length_push}
@@ -76,8 +77,7 @@ module _ (list : List Row) (of_vertex sources targets more_sources more_targets 
         edge = edge;
         of_source = refl;
         of_target = refl;
-        apart =
-            apart;
+        apart = apart;
       }) from to
 
 module _ (list : List Row) (of_vertex : List ℕ) where
@@ -129,16 +129,9 @@ module _ (list : List Row) (of_vertex : List ℕ) where
       (All-cons (λ y. IsListed s2 t2 (get_or of_vertex v 0) (get_or of_vertex y 0)) z [] second.here
       (All-nil (λ y. IsListed s2 t2 (get_or of_vertex v 0) (get_or of_vertex y 0))))))
 
--- The ends of the edges are components.
+-- The edges lead to components.
 module _ (g : Condensation) (h : IsCondensation g) (sources targets : List ℕ)
     (edges : AreEdges g.list g.of_vertex sources targets (length g.list)) where
-  pub sources_below : All (λ c. c < g.count) sources
-  sources_below = All-from_get_or (λ c. c < g.count) sources 0 (λ k less.
-      let e = edges.are k less in
-      let from = e.of_source in
-      let below = part_below g h e.source e.within in
-      omega arith)
-
   pub targets_below : All (λ c. c < g.count) targets
   targets_below = All-from_get_or (λ c. c < g.count) targets 0 (λ k less.
       let e = edges.are k (let each = edges.each in omega arith) in

@@ -1,5 +1,6 @@
 -- Components of vertices, and components that are ready.
-use Rattle.std.proofs.Common.{◌≡◌, ◌<◌, ◌≤◌, ◌^◌, ◌∙◌, ℕ, zero, suc, List, length, get_or, inl, inr, sym, subst, arith}
+use Rattle.std.proofs.Common.{◌≡◌, ◌<◌, ◌≤◌, ◌^◌, ◌∙◌, ℕ, zero, suc, List, length, get_or, inl, inr, sym, ap, subst}
+use Rattle.std.proofs.Common.{arith}
 use Rattle.std.specs.List.{All}
 use Rattle.std.proofs.lemmas.Bool.{cases_lt}
 use Rattle.std.proofs.lemmas.List.{get_or_default}
@@ -9,6 +10,7 @@ use Rattle.ce_rows.specs.declared.row.Row.TheVariants.{One}
 use Rattle.ce_comp.specs.Reach.{AreComponents}
 use Rattle.ce_comp.specs.MembersInside.{AreMembers}
 use Rattle.ce_comp.specs.NumbersInside.{Condensation, IsCondensation, IsOpen, IsReadyAt, AreNumbered, part}
+use Rattle.ce_comp.specs.SettlingInside.{condensation}
 
 -- A component has a vertex, and the first one stands in the list of first ones.
 pub record HasFirst (g : Condensation) (c : ℕ) : Type 0 where
@@ -40,6 +42,10 @@ module _ (g : Condensation) (h : IsCondensation g) where
         | inr past ↦ absurd (first.none k (omega arith) (omega arith) (get_or_default g.of_vertex k 0 c in_list ∙ at))
       ] in
       record { within = within; here = first.here (omega arith) }
+
+  pub firsts_apart : (c d : ℕ) → c < g.count → d < g.count → get_or g.first c 0 ≡ get_or g.first d 0 → c ≡ d
+  firsts_apart c d c_within d_within same =
+      sym (has_first c c_within).here ∙ ap (λ x. part g x) same ∙ (has_first d d_within).here
 
   module _ (numbers : List ℕ) (next : ℕ) (given : AreNumbered g numbers next) where
     -- Numbers below the count are below the next one.
@@ -73,11 +79,11 @@ module _ (g : Condensation) (h : IsCondensation g) where
         → get_or numbers c 0 < g.count
     all_numbered none c within = numbered_below none (suc c) c (omega arith) within
 
--- The components that the search gave, with the least vertex of each.
-pub condensed : (list : List Row) (of_vertex : List ℕ) (count : ℕ) (first next : List ℕ) → AreRows list
-    → AreComponents list of_vertex count → AreMembers of_vertex count first next → count < 2 ^ 32
-    → IsCondensation (record { list = list; of_vertex = of_vertex; count = length first; first = first })
-condensed list of_vertex count first next rows components members few =
-    subst (λ n. IsCondensation (record { list = list; of_vertex = of_vertex; count = n; first = first }))
+-- The components that the search gave, with the least vertex of each, as f reads these.
+pub condensed : (list : List Row) (of_vertex : List ℕ) (count : ℕ) (first next f : List ℕ) → AreRows list
+    → AreComponents list of_vertex count → AreMembers of_vertex count first next → count < 2 ^ 32 → f ≡ first
+    → IsCondensation (condensation list of_vertex f)
+condensed list of_vertex count first next f rows components members few read =
+    rw read (subst (λ n. IsCondensation (record { list = list; of_vertex = of_vertex; count = n; first = first }))
     (sym members.firsts)
-    (record { rows = rows; components = components; firsts = members.firsts; first_of = members.first_of; few = few })
+    (record { rows = rows; components = components; firsts = members.firsts; first_of = members.first_of; few = few }))

@@ -1,40 +1,56 @@
 -- Edges are settled one after another, and components become ready.
-use Rattle.std.proofs.Common.{◌≡◌, ◌≢◌, ◌+◌, ◌-◌, ◌<◌, ◌≤◌, ◌∙◌, ◌↔◌, ℕ, List, length, get_or, set, replicate, inl, inr, refl, sym, ap, subst, arith}
-use Rattle.std.specs.List.{All, Contains}
-use Rattle.std.specs.Ordering.{nat_cmp}
-use Rattle.std.specs.BTreeSet.{insert_key}
+use Rattle.std.proofs.Common.{◌≡◌, ◌≢◌, ◌+◌, ◌-◌, ◌<◌, ◌≤◌, ◌∷◌, ◌∙◌, ◌↔◌, ℕ, suc, List, eqb, length, get_or, set}
+use Rattle.std.proofs.Common.{replicate, inl, inr, refl, sym, ap, subst, arith}
+use Rattle.std.specs.List.{All, AllPairs}
+use Rattle.std.specs.List.Sorted.{IsPermutation}
 use Rattle.std.proofs.lemmas.Bool.{cases_lt, cases_eq}
-use Rattle.std.proofs.lemmas.List.{get_or_default, get_or-replicate, length-replicate, length-set, get_or-set_same, get_or-set_other}
-use Rattle.std.proofs.lemmas.List.Elements.{All-weaker}
-use Rattle.std.proofs.lemmas.Map.Views.{All-insert_key}
+use Rattle.std.proofs.lemmas.Bool.Decides.{Decides-eqb, nat_tests}
+use Rattle.std.proofs.lemmas.List.{get_or_default, get_or-replicate, length-replicate, length-set, get_or-set_same}
+use Rattle.std.proofs.lemmas.List.{get_or-set_other}
+use Rattle.std.proofs.lemmas.List.Elements.{All-cons}
+use Rattle.std.proofs.lemmas.List.Kept.{AllPairs-cons}
+use Rattle.std.proofs.lemmas.List.Sorted.{All-permutation, Contains-permutation}
+use Rattle.std.proofs.lemmas.Map.Keys.{IsDistinct-IsPermutation}
+use Rattle.std.proofs.lemmas.Map.Made.{AllPairs-from_IsDistinct, IsDistinct-from_AllPairs}
 use Rattle.ce_comp.specs.MembersInside.{AreMembers}
-use Rattle.ce_comp.specs.SettlingInside.{Standing, IsCount, IsReadyVertex, AreReady, AreReadyBut, IsSettling, IsHolding, IsHoldingFrom}
+use Rattle.ce_comp.specs.SettlingInside.{Standing, IsCount, IsReadyVertex, AreReady, AreReadyBut, IsSettling}
+use Rattle.ce_comp.specs.SettlingInside.{IsHolding, IsHoldingFrom}
 use Rattle.ce_comp.proofs.Counting.{AreCounts, count_same, count_less, count_none}
-use Rattle.ce_comp.proofs.ReadySet.{inserted, kept}
 
--- The set has what is ready, but for the component x, which is looked at now.
+-- What differs pair by pair does so in another order.
+pub apart_permutation : (xs ys : List ℕ) → IsPermutation xs ys → AllPairs (λ v w. v ≢ w) xs → AllPairs (λ v w. v ≢ w) ys
+apart_permutation xs ys moved h = AllPairs-from_IsDistinct Decides-eqb ys (IsDistinct-IsPermutation eqb
+    (λ x y. grind (arith, nat_tests)) xs ys moved (IsDistinct-from_AllPairs Decides-eqb xs h))
+
+-- The queue has what is ready, but for the component x, which is looked at now.
 module _ (first numbers left ready : List ℕ) (upto x now : ℕ) (within : x < length left)
     (read : now ≡ get_or left x now) (but : AreReadyBut first numbers left ready upto x) where
   value : get_or left x 0 ≡ now
   value = get_or_default left x 0 now within ∙ sym read
 
-  pub ready_with : (keys : List ℕ) → x < length first → length first ≤ get_or numbers x 0 → now ≡ 0
-      → keys ≡ insert_key nat_cmp ready (get_or first x 0) → AreReady first numbers left keys upto
-  ready_with keys inside open_yet none is =
+  pub ready_with : (queue : List ℕ) → x < upto → length first ≤ get_or numbers x 0 → now ≡ 0
+      → IsPermutation (get_or first x 0 ∷ ready) queue → AreReady first numbers left queue upto
+  ready_with queue inside open_yet none moved =
       let v = get_or first x 0 in
-      subst (λ ks. AreReady first numbers left ks upto) (sym is) (record {
-        are = All-insert_key nat_cmp v (IsReadyVertex first numbers left) ready but.are
-            (record { component = x; within = inside; is_first = refl; open_yet = open_yet; none = value ∙ none });
-        all = λ c less c_open c_none. elim (cases_eq c x) [
-          | inl same ↦ subst (λ u. Contains (insert_key nat_cmp ready v) (get_or first u 0)) (sym same)
-              (inserted v ready)
-          | inr other ↦ kept v (get_or first c 0) ready (but.all c less other c_open c_none)
-        ];
-      })
+      record {
+        firsts_apart = but.firsts_apart;
+        are = All-permutation (IsReadyVertex first numbers left upto) (v ∷ ready) queue moved
+            (All-cons (IsReadyVertex first numbers left upto) v ready
+            (record { component = x; within = inside; is_first = refl; open_yet = open_yet; none = value ∙ none })
+            but.are);
+        once = apart_permutation (v ∷ ready) queue moved (AllPairs-cons (λ v w. v ≢ w) v ready but.not_in but.once);
+        all = λ c less c_open c_none. Contains-permutation (v ∷ ready) queue (get_or first c 0) moved
+            (elim (cases_eq c x) [
+              | inl same ↦ (0, omega arith, ap (λ u. get_or first u 0) (sym same))
+              | inr other ↦ let (k, in_list, at) = but.all c less other c_open c_none in (suc k, omega arith, at)
+            ]);
+      }
 
   pub ready_without : (now ≡ 0 → ⊥) → AreReady first numbers left ready upto
   ready_without some = record {
+    firsts_apart = but.firsts_apart;
     are = but.are;
+    once = but.once;
     all = λ c less c_open c_none. elim (cases_eq c x) [
       | inl same ↦ absurd (some (sym value ∙ ap (λ m. get_or left m 0) (sym same) ∙ c_none))
       | inr other ↦ but.all c less other c_open c_none
@@ -42,37 +58,67 @@ module _ (first numbers left ready : List ℕ) (upto x now : ℕ) (within : x < 
   }
 
 -- One more component is to be looked at.
-pub next_but : (first numbers left ready : List ℕ) (x : ℕ) → AreReady first numbers left ready x
+pub next_but : (first numbers left ready : List ℕ) (x : ℕ) → x < length first → AreReady first numbers left ready x
     → AreReadyBut first numbers left ready (x + 1) x
-next_but first numbers left ready x h = record { are = h.are; all = λ c less other. h.all c (omega arith) }
+next_but first numbers left ready x within h = record {
+  firsts_apart = h.firsts_apart;
+  are = λ k d less.
+      let r = h.are k d less in
+      let below = r.within in
+      record {
+        component = r.component;
+        within = omega arith;
+        is_first = r.is_first;
+        open_yet = r.open_yet;
+        none = r.none;
+      };
+  once = h.once;
+  not_in = λ k d less same.
+      let r = h.are k d less in
+      let below = r.within in
+      let e = h.firsts_apart x r.component within (omega arith) (same ∙ sym r.is_first) in
+      omega arith;
+  all = λ c less other. h.all c (omega arith);
+}
 
 -- So is a component whose count has changed, and was not 0.
-pub changed_but : (first numbers left ready : List ℕ) (x m : ℕ) → 0 < get_or left x 0
+pub changed_but : (first numbers left ready : List ℕ) (x m : ℕ) → x < length first → 0 < get_or left x 0
     → AreReady first numbers left ready (length first) → AreReadyBut first numbers (set left x m) ready (length first) x
-changed_but first numbers left ready x m some h = record {
-  are = All-weaker (IsReadyVertex first numbers left) (IsReadyVertex first numbers (set left x m)) (λ v r. record {
-    component = r.component;
-    within = r.within;
-    is_first = r.is_first;
-    open_yet = r.open_yet;
-    none =
-        let none = r.none in
-        let other : r.component ≢ x = λ same. let e = ap (λ u. get_or left u 0) same in omega arith in
-        get_or-set_other left x r.component m 0 other ∙ none;
-  }) ready h.are;
+changed_but first numbers left ready x m within some h = record {
+  firsts_apart = h.firsts_apart;
+  are = λ k d less.
+      let r = h.are k d less in
+      let none = r.none in
+      let other : r.component ≢ x = λ same. let e = ap (λ u. get_or left u 0) same in omega arith in
+      record {
+        component = r.component;
+        within = r.within;
+        is_first = r.is_first;
+        open_yet = r.open_yet;
+        none = get_or-set_other left x r.component m 0 other ∙ none;
+      };
+  once = h.once;
+  not_in = λ k d less same.
+      let r = h.are k d less in
+      let none = r.none in
+      let e = ap (λ u. get_or left u 0) (h.firsts_apart x r.component within r.within (same ∙ sym r.is_first)) in
+      omega arith;
   all = λ c less other c_open none. h.all c less c_open (sym (get_or-set_other left x c m 0 other) ∙ none);
 }
 
 module _ (first sources targets : List ℕ) where
+  -- the edge k starts from the component c, and has a property
+  abbrev IsFrom : ℕ → (ℕ → Type 0) → ℕ → Type 0
+  IsFrom c P k = (get_or sources k 0 ≡ c) × P k
+
   -- The same edges hold back.
   pub recount : (P Q : ℕ → Type 0) (s : Standing) → ((k : ℕ) → k < length sources → P k ↔ Q k)
       → IsSettling first sources P s → IsSettling first sources Q s
   recount P Q s same h = record {
     numbers_each = h.numbers_each;
     left_each = h.left_each;
-    counts = λ c within. count_same (λ k. (get_or sources k 0 ≡ c) × P k) (λ k. (get_or sources k 0 ≡ c) × Q k)
-        (length sources) (get_or s.left c 0) (λ k less.
-        (λ p. (p.0, (same k less).0 p.1), λ q. (q.0, (same k less).1 q.1))) (h.counts c within);
+    counts = λ c within. count_same (IsFrom c P) (IsFrom c Q) (length sources) (get_or s.left c 0)
+        (λ k less. (λ p. (p.0, (same k less).0 p.1), λ q. (q.0, (same k less).1 q.1))) (h.counts c within);
     done = h.done;
     ready = h.ready;
   }
@@ -91,7 +137,7 @@ module _ (first sources targets : List ℕ) where
         numbers_each = ap (λ (xs : List ℕ). length xs) none ∙ length-replicate n n;
         left_each = each;
         counts = λ c within. count_same (λ k. get_or sources k 0 ≡ c)
-            (λ k. (get_or sources k 0 ≡ c) × IsHolding first targets numbers k) (length sources) (get_or left c 0)
+            (IsFrom c (IsHolding first targets numbers)) (length sources) (get_or left c 0)
             (λ k less. (
               λ from. (from, let value = at (get_or targets k 0) (below k 0 (omega arith)) in omega arith),
               λ both. both.0,
@@ -108,30 +154,31 @@ module _ (first sources targets : List ℕ) where
 
     module _ (less : e < length sources) (into : get_or targets e 0 ≡ d)
         (source : get_or sources e 0 < length first) where
+      abbrev origin : ℕ
+      origin = get_or sources e 0
+
+      abbrev Was : ℕ → Type 0
+      Was = IsHoldingFrom first targets s.numbers d e
+
       -- The edge e is counted, so its source has no number.
-      pub left_some : 0 < get_or s.left (get_or sources e 0) 0
-      left_some = elim (cases_lt 0 (get_or s.left (get_or sources e 0) 0)) [
+      pub left_some : 0 < get_or s.left origin 0
+      left_some = elim (cases_lt 0 (get_or s.left origin 0)) [
         | inl some ↦ some
-        | inr none ↦ absurd (count_none (λ k. (get_or sources k 0 ≡ get_or sources e 0)
-            × IsHoldingFrom first targets s.numbers d e k) (length sources) (get_or s.left (get_or sources e 0) 0) e
-            (h.counts (get_or sources e 0) source) (omega arith) less (refl, inr (into, omega arith)))
+        | inr none ↦ absurd (count_none (IsFrom origin Was) (length sources) (get_or s.left origin 0) e
+            (h.counts origin source) (omega arith) less (refl, inr (into, omega arith)))
       ]
 
-      pub source_open : length first ≤ get_or s.numbers (get_or sources e 0) 0
-      source_open = elim (cases_lt (get_or s.numbers (get_or sources e 0) 0) (length first)) [
-        | inl numbered ↦ let none = h.done (get_or sources e 0) source numbered in let some = left_some in
-            absurd (omega arith)
+      pub source_open : length first ≤ get_or s.numbers origin 0
+      source_open = elim (cases_lt (get_or s.numbers origin 0) (length first)) [
+        | inl numbered ↦ let none = h.done origin source numbered in let some = left_some in absurd (omega arith)
         | inr above ↦ above
       ]
 
       -- The edge e is settled, and the next one into d is f.
       module _ (t : Standing) (f : ℕ) (numbered : get_or s.numbers d 0 < length first) (numbers : t.numbers ≡ s.numbers)
-          (left : t.left ≡ set s.left (get_or sources e 0) (get_or s.left (get_or sources e 0) 0 - 1))
+          (left : t.left ≡ set s.left origin (get_or s.left origin 0 - 1))
           (ready : AreReady first t.numbers t.left t.ready (length first)) (after : e < f)
           (between : (k : ℕ) → e + 1 ≤ k → k < f → get_or targets k 0 ≢ d) where
-        abbrev Was : ℕ → Type 0
-        Was = IsHoldingFrom first targets s.numbers d e
-
         abbrev Is : ℕ → Type 0
         Is = IsHoldingFrom first targets s.numbers d f
 
@@ -149,34 +196,31 @@ module _ (first sources targets : List ℕ) where
           λ q. elim q [ inl holds ↦ inl holds | inr at ↦ let up = at.1 in inr (at.0, omega arith) ],
         )
 
-        counts : (c : ℕ) → c < length first → (l : ℕ) → (l ≡ get_or
-            (set s.left (get_or sources e 0) (get_or s.left (get_or sources e 0) 0 - 1)) c 0)
-            → IsCount (λ k. (get_or sources k 0 ≡ c) × Is k) (length sources) l
-        counts c within l is = elim (cases_eq c (get_or sources e 0)) [
+        abbrev fewer : List ℕ
+        fewer = set s.left origin (get_or s.left origin 0 - 1)
+
+        counts : (c : ℕ) → c < length first → (l : ℕ) → l ≡ get_or fewer c 0 → IsCount (IsFrom c Is) (length sources) l
+        counts c within l is = elim (cases_eq c origin) [
           | inl same ↦
-              let (n, one_less, fewer) = count_less (λ k. (get_or sources k 0 ≡ c) × Was k)
-              (λ k. (get_or sources k 0 ≡ c) × Is k) (length sources) e (get_or s.left c 0) less
-              (sym same, inr (into, omega arith)) (λ p. gone p.1)
+              let (n, one_less, rest) = count_less (IsFrom c Was) (IsFrom c Is) (length sources) e (get_or s.left c 0)
+              less (sym same, inr (into, omega arith)) (λ p. gone p.1)
               (λ k under apart. (λ p. (p.0, (others k apart).0 p.1), λ q. (q.0, (others k apart).1 q.1)))
               (h.counts c within) in
               let each = h.left_each in
-              let at = ap (λ m. get_or (set s.left (get_or sources e 0) (get_or s.left (get_or sources e 0) 0 - 1)) m 0)
-              same ∙ get_or-set_same s.left (get_or sources e 0) (get_or s.left (get_or sources e 0) 0 - 1) 0
-              (omega arith) in
+              let at = ap (λ m. get_or fewer m 0) same
+              ∙ get_or-set_same s.left origin (get_or s.left origin 0 - 1) 0 (omega arith) in
               let old = ap (λ m. get_or s.left m 0) same in
               let value : n ≡ l = omega arith in
-              subst (λ m. IsCount (λ k. (get_or sources k 0 ≡ c) × Is k) (length sources) m) value fewer
+              subst (λ m. IsCount (IsFrom c Is) (length sources) m) value rest
           | inr other ↦
-              let at = get_or-set_other s.left (get_or sources e 0) c (get_or s.left (get_or sources e 0) 0 - 1) 0
-              other in
-              subst (λ m. IsCount (λ k. (get_or sources k 0 ≡ c) × Is k) (length sources) m) (sym at ∙ sym is)
-              (count_same (λ k. (get_or sources k 0 ≡ c) × Was k) (λ k. (get_or sources k 0 ≡ c) × Is k)
-              (length sources) (get_or s.left c 0) (λ k under.
+              let at = get_or-set_other s.left origin c (get_or s.left origin 0 - 1) 0 other in
+              subst (λ m. IsCount (IsFrom c Is) (length sources) m) (sym at ∙ sym is)
+              (count_same (IsFrom c Was) (IsFrom c Is) (length sources) (get_or s.left c 0) (λ k under.
               (λ p. (p.0, (others k (apart k p.0 other)).0 p.1), λ q. (q.0, (others k (apart k q.0 other)).1 q.1)))
               (h.counts c within))
         ]
           where
-            apart : (k : ℕ) → get_or sources k 0 ≡ c → c ≢ get_or sources e 0 → k ≢ e
+            apart : (k : ℕ) → get_or sources k 0 ≡ c → c ≢ origin → k ≢ e
             apart k is_c other same = other (sym is_c ∙ ap (λ m. get_or sources m 0) same)
 
         done_still : (c : ℕ) → c < length first → get_or t.numbers c 0 < length first → get_or t.left c 0 ≡ 0
@@ -185,17 +229,16 @@ module _ (first sources targets : List ℕ) where
             let number = ap (λ (xs : List ℕ). get_or xs c 0) numbers in
             let none = h.done c within (omega arith) in
             let some = left_some in
-            let other : c ≢ get_or sources e 0 = λ same. let at = ap (λ m. get_or s.left m 0) same in omega arith in
-            now ∙ get_or-set_other s.left (get_or sources e 0) c (get_or s.left (get_or sources e 0) 0 - 1) 0 other
-            ∙ none
+            let other : c ≢ origin = λ same. let at = ap (λ m. get_or s.left m 0) same in omega arith in
+            now ∙ get_or-set_other s.left origin c (get_or s.left origin 0 - 1) 0 other ∙ none
 
         pub settled_one : IsSettling first sources (IsHoldingFrom first targets t.numbers d f) t
         settled_one = record {
           numbers_each = ap (λ (xs : List ℕ). length xs) numbers ∙ h.numbers_each;
-          left_each = ap (λ (xs : List ℕ). length xs) left
-              ∙ length-set s.left (get_or sources e 0) (get_or s.left (get_or sources e 0) 0 - 1) ∙ h.left_each;
-          counts = λ c within. subst (λ ns. IsCount (λ k. (get_or sources k 0 ≡ c)
-              × IsHoldingFrom first targets ns d f k) (length sources) (get_or t.left c 0)) (sym numbers)
+          left_each = ap (λ (xs : List ℕ). length xs) left ∙ length-set s.left origin (get_or s.left origin 0 - 1)
+              ∙ h.left_each;
+          counts = λ c within. subst (λ ns. IsCount (IsFrom c (IsHoldingFrom first targets ns d f)) (length sources)
+              (get_or t.left c 0)) (sym numbers)
               (counts c within (get_or t.left c 0) (ap (λ (xs : List ℕ). get_or xs c 0) left));
           done = done_still;
           ready = ready;

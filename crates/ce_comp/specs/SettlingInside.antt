@@ -1,6 +1,7 @@
 -- The edges between different components (AreEdges), how many of each component's lead to components
 -- without numbers, and which components have none (IsSettling). Source: [Kahn1962], for the counts.
-use Rattle.std.specs.Prelude.{◌≡◌, ◌≢◌, ◌⊎◌, ◌*◌, ◌<◌, ◌≤◌, ◌++◌, ◌∷◌, [], ℕ, zero, suc, List, length, All, Contains, slice_index}
+use Rattle.std.specs.Prelude.{◌≡◌, ◌≢◌, ◌⊎◌, ◌*◌, ◌<◌, ◌≤◌, ◌++◌, ◌∷◌, [], ℕ, zero, suc, List, length, All, AllPairs}
+use Rattle.std.specs.Prelude.{Contains, slice_index}
 use Rattle.ce_rows.specs.Rows.{successors_in}
 use Rattle.ce_rows.specs.declared.row.Row.{Row}
 use Rattle.ce_comp.specs.NumbersInside.{Condensation}
@@ -47,23 +48,33 @@ pub record Standing : Type 0 where
   pub left : List ℕ
   pub ready : List ℕ
 
--- The vertex v is the first one of a component that has no number and waits for none.
-pub record IsReadyVertex (first numbers left : List ℕ) (v : ℕ) : Type 0 where
+-- The vertex v is the first one of a component below upto that has no number and waits for none.
+pub record IsReadyVertex (first numbers left : List ℕ) (upto v : ℕ) : Type 0 where
   pub component : ℕ
-  pub within : component < length first
+  pub within : component < upto
   pub is_first : slice_index first component ≡ v
   pub open_yet : length first ≤ slice_index numbers component
   pub none : slice_index left component ≡ 0
 
--- The set has the first vertices of all such components below upto.
+-- Different components have different first vertices.
+abbrev pub AreFirstsApart : List ℕ → Type 0
+AreFirstsApart first = (c d : ℕ) → c < length first → d < length first → slice_index first c ≡ slice_index first d
+    → c ≡ d
+
+-- The queue has the first vertices of all such components, each once.
 pub record AreReady (first numbers left ready : List ℕ) (upto : ℕ) : Type 0 where
-  pub are : All (IsReadyVertex first numbers left) ready
+  pub firsts_apart : AreFirstsApart first
+  pub are : All (IsReadyVertex first numbers left upto) ready
+  pub once : AllPairs (λ v w. v ≢ w) ready
   pub all : (c : ℕ) → c < upto → length first ≤ slice_index numbers c → slice_index left c ≡ 0
       → Contains ready (slice_index first c)
 
--- The same, but for the component x.
+-- The same, but for the component x, which is not in it.
 pub record AreReadyBut (first numbers left ready : List ℕ) (upto x : ℕ) : Type 0 where
-  pub are : All (IsReadyVertex first numbers left) ready
+  pub firsts_apart : AreFirstsApart first
+  pub are : All (IsReadyVertex first numbers left upto) ready
+  pub once : AllPairs (λ v w. v ≢ w) ready
+  pub not_in : All (λ v. slice_index first x ≢ v) ready
   pub all : (c : ℕ) → c < upto → c ≢ x → length first ≤ slice_index numbers c → slice_index left c ≡ 0
       → Contains ready (slice_index first c)
 
@@ -91,4 +102,4 @@ condensation list of_vertex first =
     record { list = list; of_vertex = of_vertex; count = length first; first = first }
 
 abbrev pub standing : Progress → Standing
-standing p = record { numbers = p.numbers.items; left = p.left.items; ready = p.ready.keys }
+standing p = record { numbers = p.numbers.items; left = p.left.items; ready = p.ready }

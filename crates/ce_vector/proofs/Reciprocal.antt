@@ -1,5 +1,5 @@
 -- Division by a reciprocal that was rounded down: the estimate is the quotient, or one less.
-use Rattle.std.proofs.Common.{◌≡◌, ◌≤◌, ◌<◌, ◌⊎◌, ℕ, ◌+◌, ◌*◌, ◌-◌, ◌/◌, ◌%◌, ◌^◌, ap, subst, arith, sym, ◌∙◌}
+use Rattle.std.proofs.Common.{◌≡◌, ◌≤◌, ◌<◌, ℕ, ◌+◌, ◌*◌, ◌-◌, ◌/◌, ◌%◌, ap, arith, sym}
 use Rattle.std.proofs.Math.Nat.{div-mul-le_self, lt-div-mul-add, mul-le-mul_left, mul-le-mul_right, div-eq_of_lt-le}
 
 -- For r = floor(2^64 p / d), the estimate floor(a r / 2^64) times d is at most a p, and less than

@@ -5,6 +5,7 @@
 // quotient is one too small at most, which the remainder tells.
 ghost use Rattle.std.specs.Prelude.{◌≡◌, ◌≤◌, ◌*◌, ◌^◌};
 ghost use Rattle.ce_vector.specs.Relaxation.{relaxed};
+ghost use Rattle.ce_rows.specs.Limits.{entry_limit};
 
 use crate::relaxation::MOST;
 use ce_rows::Scale;
@@ -56,11 +57,11 @@ impl Relaxer {
     /// One normalized step of the iteration at an entry x with the block sum s, as `relax`, without a
     /// division.
     pub fn relax(&self, x: u64, s: u64) -> u64
-        requires entry { x ≤ 2 ^ 60 }
+        requires entry { x ≤ entry_limit }
         requires sum { s ≤ 2 ^ 61 }
         ensures value { result ≡ relaxed self.now.exponent x s self.now.low self.now.high }
         ensures some { 1 ≤ result }
-        ensures most { result ≤ 2 ^ 60 }
+        ensures most { result ≤ entry_limit }
     {
         let sum = x + s;
         let estimate = ((u128::from(sum) * u128::from(self.reciprocal)) >> 64) as u64;

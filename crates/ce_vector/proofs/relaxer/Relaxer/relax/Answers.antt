@@ -1,4 +1,4 @@
-use Rattle.std.proofs.Common.{rules, ◌≡◌, ◌≤◌, ◌*◌, ◌^◌, ℕ, ◌+◌, ◌-◌, ◌<◌, ◌/◌, max, min, ap, ◌∙◌, arith, inl, inr}
+use Rattle.std.proofs.Common.{◌≡◌, ◌≤◌, ◌*◌, ◌^◌, ℕ, ◌+◌, ◌<◌, ◌/◌, ap, ◌∙◌, arith, inl, inr}
 use Rattle.ce_rows.specs.Scale.{IsExponent}
 use Rattle.ce_vector.specs.Relaxation.{Between, relaxed, middle}
 use Rattle.ce_vector.proofs.Reciprocal.{wrapped_difference, quotient_is_estimate, quotient_is_next}

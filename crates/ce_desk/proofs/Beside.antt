@@ -1,9 +1,9 @@
 -- A session that ran beside a crew.
-use Rattle.std.proofs.Common.{◌≡◌, ◌<◌, ◌+◌, ℕ, zero, suc, List, [], ◌∷◌, length, drop, slice_index_or, Option, refl}
-use Rattle.std.proofs.Common.{sym, ap, ◌∙◌, subst, arith}
+use Rattle.std.proofs.Common.{◌≡◌, ◌<◌, ◌+◌, ℕ, suc, List, ◌∷◌, length, drop, slice_index_or, Option}
+use Rattle.std.proofs.Common.{ap, ◌∙◌, subst, arith}
 use Rattle.std.proofs.lemmas.List.{length-drop, get_or-drop}
 use Rattle.std.proofs.lemmas.List.{get_or_default}
-use Rattle.ce_desk.specs.Actors.{HasRun, HasRunSession, HaveRunCrews, HasRunCrew}
+use Rattle.ce_desk.specs.Actors.{HasRun, HasRunSession, HaveRunCrews}
 use Rattle.ce_desk.specs.declared.actor.Actor.{Actor}
 use Rattle.ce_desk.specs.declared.actor.Actor.TheVariants.{Session as ASession, Crew as ACrew}
 use Rattle.ce_desk.specs.declared.case.Case.{Case}

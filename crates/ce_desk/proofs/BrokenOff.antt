@@ -79,7 +79,7 @@ module _ {S O : Type 0} (left : S → Option (List ℕ)) (read_faults : S → �
   pub fault_some : (fault : Fault) → HasEnded rounds exponent start (Failed fault) desk now
       → ServedSome rounds exponent (left source) now.left (taken out) now.taken
   fault_some InputTooLong (count, h, given) = to_some count h part_bytes
-  fault_some ReadFault (count, h, rose) = to_some count h part_bytes
+  fault_some ReadFault (count, h, rose, drained) = to_some count h part_bytes
   fault_some WriteFault (w, rose) = cut_some w
   fault_some NoMemory w = cut_some w
 

@@ -2,7 +2,7 @@
 -- first
 -- seat, which loaded the bounds, stands beside the worker like a session, so all that was proved of runs with sessions
 -- holds here.
-use Rattle.std.proofs.Common.{◌≡◌, ℕ, zero, suc, ◌+◌, ◌-◌, ◌*◌, ◌/◌, ◌<◌, ◌≤◌, ◌⊎◌, inl, inr, Bool, true, false, cond}
+use Rattle.std.proofs.Common.{◌≡◌, ℕ, zero, suc, ◌+◌, ◌-◌, ◌*◌, ◌/◌, ◌<◌, ◌⊎◌, inl, inr, Bool, true, false, cond}
 use Rattle.std.proofs.Common.{eqb, slice_index, List, [], ◌∷◌, ◌++◌, length, All, refl, sym, ap, ◌∙◌, subst, append-nil}
 use Rattle.std.proofs.Common.{arith}
 use mathlib.Core.Option.{some, some-injective}
@@ -14,9 +14,8 @@ use Rattle.ce_crew.specs.declared.worker.Worker.{Worker}
 use Rattle.ce_live.specs.Sessions.{SessionState}
 use Rattle.ce_live.specs.declared.reading.Reading.{Reading}
 use Rattle.ce_rows.specs.Rows.{EnclosesRows}
-use Rattle.ce_rows.specs.declared.act.LogEntry.{LogEntry}
 use Rattle.ce_rows.specs.declared.interval.Interval.{Interval}
-use Rattle.ce_solve.specs.Actors.{IsOver, IsTold, IsFirstSeat, HasTurns, places_of, joined_all, worker_places}
+use Rattle.ce_solve.specs.Actors.{IsOver, IsTold, IsFirstSeat, HasTurns, places_of, joined_all}
 use Rattle.ce_solve.specs.Actors.{readings_of}
 use Rattle.ce_solve.specs.ChaoticRun.{part_of, IsRun, IsCertifiedLow, IsCertifiedHigh, HasKnownEnds}
 use Rattle.ce_solve.specs.declared.crew.Actor.{Actor}
@@ -28,22 +27,22 @@ use Rattle.ce_solve.proofs.ReadingsAround.{readings_around}
 use Rattle.ce_words.proofs.Logs.{Widens, possible_more, in_part_none}
 use Rattle.ce_words.proofs.Seats.{greatest_as, least_as}
 use Rattle.ce_words.proofs.Sums.{Each-more}
-use Rattle.ce_words.specs.Logs.{is_raise, is_lower, is_ask, is_stop, times, halts, total, by_place, in_part, stores, had, Each}
+use Rattle.ce_words.specs.Logs.{is_raise, is_lower, is_ask, is_stop, times, halts, by_place, in_part, stores}
+use Rattle.ce_words.specs.Logs.{had, Each}
 use Rattle.ce_words.specs.Logs.{IsPossibleLog}
 use Rattle.ce_words.specs.Seats.{board_run}
 use Rattle.ce_words.specs.Steps.{IsSettled, WasSet, LiesInside}
-use Rattle.ce_words.specs.Views.{view, viewed, kept, place, part, both_of, rows_of}
+use Rattle.ce_words.specs.Views.{view, viewed, place, part, both_of, rows_of}
 use Rattle.ce_words.specs.declared.board.Board.{Board}
 use Rattle.ce_words.specs.declared.view.Part.{Part}
 use Rattle.ce_words.specs.declared.view.Place.{Place}
-use Rattle.ce_words.specs.declared.view.Role.TheVariants.{First, Other}
+use Rattle.ce_words.specs.declared.view.Role.TheVariants.{Other}
 use Rattle.ce_words.specs.declared.view.Run.{Run}
 use Rattle.ce_words.specs.declared.view.View.{View}
 use Rattle.ce_desk.proofs.Reading.{readings_numbered, each_told}
 use Rattle.ce_desk.specs.Cases.{readings_from, IsFirstOf, IsDoneFor}
 use Rattle.ce_desk.specs.Desk.{Slot}
 use Rattle.ce_desk.specs.DeskText.{Closes, HasTurns as HasTurnsMade}
-use Rattle.ce_desk.specs.declared.closing.Closing.{Closing}
 
 -- An empty part owns no entry.
 owns_none : (run : Run) (e x : ℕ) (p : Place) → p.part.from ≡ p.part.to → had run e x p ≡ 0

@@ -1,10 +1,9 @@
 -- Slots that were closed so far.
-use Rattle.std.proofs.Common.{◌≡◌, ◌≢◌, ◌<◌, ◌≤◌, ◌+◌, ℕ, zero, suc, List, [], ◌∷◌, ◌++◌, length, slice_index_or}
-use Rattle.std.proofs.Common.{slice_set, inl, inr, refl, sym, ap, ◌∙◌, subst, length-append, arith}
-use Rattle.std.proofs.lemmas.List.{length-set, get_or-set_other, get_or_push, get_or_append_left}
+use Rattle.std.proofs.Common.{◌≡◌, ◌<◌, ◌≤◌, ◌+◌, ℕ, List, [], ◌∷◌, ◌++◌, length, slice_index_or}
+use Rattle.std.proofs.Common.{slice_set, inl, inr, refl, sym, ap, ◌∙◌, subst, arith}
+use Rattle.std.proofs.lemmas.List.{get_or-set_other, get_or_push, get_or_append_left}
 use Rattle.ce_crew.specs.declared.worker.Worker.{Worker}
 use Rattle.ce_desk.proofs.Dealing.{owns_still}
-use Rattle.std.proofs.lemmas.List.{get_or_default}
 use Rattle.ce_desk.proofs.Slots.{at_or_below}
 use Rattle.ce_desk.specs.Cases.{AreFirsts, IsFirstOf, IsDoneFor}
 use Rattle.ce_desk.specs.Crews.{Owns, AreDone, HasTakenBack}

@@ -1,5 +1,5 @@
 -- How a desk ended, by how its talk ended and what became of the closing lines.
-use Rattle.std.proofs.Common.{◌≡◌, ◌≢◌, ◌≤◌, ◌<◌, ◌+◌, ◌^◌, ◌⊎◌, ℕ, List, [], ◌∷◌, length, take, drop, Option, inl, inr}
+use Rattle.std.proofs.Common.{◌≡◌, ◌≤◌, ◌+◌, ◌^◌, ◌⊎◌, ℕ, List, [], ◌∷◌, length, take, Option, inl, inr}
 use Rattle.std.proofs.Common.{refl, sym, ap}
 use Rattle.std.proofs.Common.{◌∙◌, subst, arith}
 use Rattle.std.specs.Io.KnownBytes.{Consumes}
@@ -15,7 +15,7 @@ use Rattle.ce_desk.proofs.Ended.{consumed_known}
 use Rattle.ce_desk.proofs.NoQuit.{no_quit_answered}
 use Rattle.ce_desk.proofs.OneMore.{rose_since}
 use Rattle.ce_desk.specs.Desk.{Desk}
-use Rattle.ce_desk.specs.Served.{ServedAll, ServedSome, IsTooLong, AnsweredEach, AnsweredAhead, stop_of}
+use Rattle.ce_desk.specs.Served.{ServedAll, ServedSome, IsTooLong, AnsweredEach, stop_of}
 use Rattle.ce_desk.specs.ServedInside.{at_start, HasServed}
 use Rattle.ce_desk.specs.Talks.{Streams, streams, IsLater, HasEnded, IsNext, IsGood, IsSpeechEnd}
 use Rattle.ce_desk.specs.declared.serving.DeskEnd.{DeskEnd}
@@ -47,7 +47,7 @@ pub ended_later : (rounds exponent : ℕ) (start : Streams) (end : TalkEnd) (des
 ended_later rounds exponent start Quit desk now (count, h) = h.heard.later
 ended_later rounds exponent start Silence desk now (count, h, within) = h.later
 ended_later rounds exponent start (Failed InputTooLong) desk now (count, h, given) = h.later
-ended_later rounds exponent start (Failed ReadFault) desk now (count, h, rose) = h.later
+ended_later rounds exponent start (Failed ReadFault) desk now (count, h, rose, drained) = h.later
 ended_later rounds exponent start (Failed WriteFault) desk now (w, rose) = w.later
 ended_later rounds exponent start (Failed NoMemory) desk now w = w.later
 
@@ -174,7 +174,7 @@ module _ {S O : Type 0} (left : S → Option (List ℕ)) (read_faults : S → �
       part = λ differs. absurd (differs stop);
       too_long = λ s. absurd (done_not_long e.stop stop s);
       answered = λ s. absurd (done_not_long e.stop stop s);
-      answered_ahead = λ s. absurd (done_not_read e.stop stop s);
+      answered_all = λ s. absurd (done_not_read e.stop stop s);
       read_fault = λ s. absurd (done_not_read e.stop stop s);
       write_fault = λ s. absurd (done_not_write e.stop stop s);
       read = read_on;
@@ -197,7 +197,7 @@ module _ {S O : Type 0} (left : S → Option (List ℕ)) (read_faults : S → �
       part = λ differs. some_served some;
       too_long = λ s. absurd (starved_not_long (sym stop ∙ s));
       answered = λ s. absurd (starved_not_long (sym stop ∙ s));
-      answered_ahead = λ s. absurd (starved_not_read (sym stop ∙ s));
+      answered_all = λ s. absurd (starved_not_read (sym stop ∙ s));
       read_fault = λ s. absurd (starved_not_read (sym stop ∙ s));
       write_fault = λ s. absurd (starved_not_write (sym stop ∙ s));
       read = read_on;
@@ -245,13 +245,13 @@ module _ {S O : Type 0} (left : S → Option (List ℕ)) (read_faults : S → �
         (λ (l o : Option (List ℕ)). AnsweredEach rounds exponent 1 (left source) l (taken out) o)
         (answered_long left read_faults taken write_faults rounds exponent source out t desk (one ended.0.2) ended.0)
 
-    so_answered_ahead : length (ahead t.lines.bytes) ≤ 512 → EndedSo ReadFault
-        → AnsweredAhead rounds exponent (left source) (left e.source) (taken out) (taken e.out)
-    so_answered_ahead few (inl speech) = absurd speech
-    so_answered_ahead few (inr ended) =
+    so_answered_all : EndedSo ReadFault
+        → AnsweredEach rounds exponent 0 (left source) (left e.source) (taken out) (taken e.out)
+    so_answered_all (inl speech) = absurd speech
+    so_answered_all (inr ended) =
         same_streams ended.1
-        (λ (l o : Option (List ℕ)). AnsweredAhead rounds exponent (left source) l (taken out) o)
-        (answered_fault left read_faults taken write_faults rounds exponent source out t desk few ended.0)
+        (λ (l o : Option (List ℕ)). AnsweredEach rounds exponent 0 (left source) l (taken out) o)
+        (answered_fault left read_faults taken write_faults rounds exponent source out t desk ended.0)
 
     so_read : EndedSo ReadFault → Rose (read_faults source) (read_faults e.source)
     so_read (inl speech) = absurd speech
@@ -269,17 +269,17 @@ module _ {S O : Type 0} (left : S → Option (List ℕ)) (read_faults : S → �
         → (fault : Fault) → e.stop ≡ stop_of fault
         → (IsGood end → IsSpeechEnd (write_faults t.out) (write_faults u.out) (Failed fault))
         → ((IsGood end → ⊥) → (Failed fault ≡ end) × (u.out ≡ t.out))
-        → (t.lines.bytes.given ≡ 2 ^ 20 + 1 → length (ahead t.lines.bytes) ≡ 1) → length (ahead t.lines.bytes) ≤ 512
+        → (t.lines.bytes.given ≡ 2 ^ 20 + 1 → length (ahead t.lines.bytes) ≡ 1)
         → ServedSome rounds exponent (left source) now.left (taken out) (taken u.out)
         → HasServed left read_faults taken write_faults rounds exponent source out e
-    fault_served end h fault stop cut same one few some =
+    fault_served end h fault stop cut same one some =
         let so = ended_so end h fault cut same in
         record {
           done = λ s. absurd (stop_not_done fault (sym stop ∙ s));
           part = λ differs. some_served some;
           too_long = λ s. so_too_long one (so InputTooLong (is_too_long fault (sym stop ∙ s)));
           answered = λ s. so_answered one (so InputTooLong (is_too_long fault (sym stop ∙ s)));
-          answered_ahead = λ s. so_answered_ahead few (so ReadFault (is_read fault (sym stop ∙ s)));
+          answered_all = λ s. so_answered_all (so ReadFault (is_read fault (sym stop ∙ s)));
           read_fault = λ s. so_read (so ReadFault (is_read fault (sym stop ∙ s)));
           write_fault = λ s. so_write (so WriteFault (is_write fault (sym stop ∙ s)));
           read = read_on;

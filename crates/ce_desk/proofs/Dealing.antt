@@ -1,5 +1,5 @@
 -- Workers of the slots by the actors that own them.
-use Rattle.std.proofs.Common.{Bool, true, false, ◌≡◌, ◌≢◌, ◌<◌, ◌≤◌, ◌+◌, ◌%◌, ℕ, zero, suc, All, List, [], ◌∷◌, ◌++◌}
+use Rattle.std.proofs.Common.{Bool, true, false, ◌≡◌, ◌≢◌, ◌<◌, ◌≤◌, ◌+◌, ◌%◌, ℕ, All, List, [], ◌∷◌, ◌++◌}
 use Rattle.std.proofs.Common.{length, slice_index_or, slice_set, Option, None, Some, inl, inr, refl, sym, ap, ◌∙◌}
 use Rattle.std.proofs.Common.{subst, length-append, append-nil, arith}
 use Rattle.std.proofs.Math.Nat.{mod-lt}
@@ -9,7 +9,6 @@ use Rattle.std.proofs.lemmas.List.{length-set, get_or-set_same, get_or-set_other
 use Rattle.std.proofs.lemmas.List.Elements.{All-nil, All-cons, All-append, All-set}
 use Rattle.ce_crew.specs.declared.worker.Worker.{Worker}
 use Rattle.ce_desk.proofs.Slots.{eq_or_not}
-use Rattle.std.proofs.lemmas.List.{get_or_default}
 use Rattle.ce_desk.proofs.Slots.{at_or_below}
 use Rattle.ce_desk.specs.Crews.{IsCrewOf, AreCrewsOf, HasWorker, Owns, HaveNone, KeepsOthers, AreIdle, HasHandedOut}
 use Rattle.ce_desk.specs.Crews.{HaveDealt, HasTakenBack}

@@ -1,13 +1,13 @@
 -- What a talk that ended comes to, with the closing lines.
-use Rattle.std.proofs.Common.{◌≡◌, ◌≤◌, ◌+◌, ◌^◌, ℕ, Bool, true, false, List, [], ◌∷◌, ◌++◌, Option, None, Some, inl}
+use Rattle.std.proofs.Common.{◌≡◌, ℕ, Bool, true, false, List, [], ◌∷◌, ◌++◌, Option, None, Some, inl}
 use Rattle.std.proofs.Common.{inr, refl}
-use Rattle.std.proofs.Common.{sym, ap, ◌∙◌, subst, arith}
+use Rattle.std.proofs.Common.{sym, ap, subst, arith}
 use Rattle.std.specs.Prelude.{codes}
 use Rattle.std.specs.Io.KnownBytes.{Consumes, IsAtEnd, prepend_known}
 use Rattle.std.proofs.KnownBytes.{Consumes-trans}
 use Rattle.ce_lines.specs.Asks.{IsAsked}
 use Rattle.ce_lines.specs.Bytes.{ahead}
-use Rattle.ce_lines.specs.Lines.{TookOne, TookLine}
+use Rattle.ce_lines.specs.Lines.{TookOne}
 use Rattle.ce_lines.specs.declared.asked.Asked.TheVariants.{Quit as AskedQuit}
 use Rattle.ce_port.specs.Sink.{GrewBy}
 use Rattle.ce_port.specs.WriteAll.{GrewByPrefix}

@@ -1,7 +1,7 @@
 -- What stands behind open slots, as session and crew need it.
 use Rattle.std.proofs.Common.{◌≡◌, ◌<◌, ℕ, List, [], ◌∷◌, ◌++◌, length, take, drop, slice_index_or, refl, sym, ap, ◌∙◌}
 use Rattle.std.proofs.Common.{subst, arith}
-use Rattle.std.specs.Prelude.{Result, Ok, Err, IfOk}
+use Rattle.std.specs.Prelude.{Result, Ok, IfOk}
 use Rattle.ce_crew.specs.declared.worker.Worker.{Worker}
 use Rattle.ce_desk.proofs.Dealing.{any_of}
 use Rattle.ce_desk.specs.Cases.{AreOpenSlots, AreFirsts}

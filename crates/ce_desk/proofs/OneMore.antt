@@ -1,10 +1,9 @@
 -- One line more, one reply more, and streams that are later still.
-use Rattle.std.proofs.Common.{◌≡◌, ◌≤◌, ◌+◌, ℕ, List, [], ◌∷◌, ◌++◌, length, Option, None, Some, inl, inr, refl, sym}
+use Rattle.std.proofs.Common.{◌≤◌, ◌+◌, ℕ, List, [], ◌∷◌, ◌++◌, length, Option, None, Some, inl, inr, refl, sym}
 use Rattle.std.proofs.Common.{ap, ◌∙◌, subst, append_assoc, append-nil, length-append, arith}
 use Rattle.std.specs.Io.KnownBytes.{Consumes}
 use Rattle.std.proofs.KnownBytes.{Consumes-trans, Consumes-nil}
-use Rattle.ce_lines.specs.Lines.{TookOne, TookLines, TookFormless}
-use Rattle.ce_port.specs.ReadAll.{Gave}
+use Rattle.ce_lines.specs.Lines.{TookOne, TookLines}
 use Rattle.ce_port.specs.Sink.{Rose}
 use Rattle.ce_desk.specs.Desk.{Desk}
 use Rattle.ce_desk.specs.DeskText.{IsReply, AreReplies}

@@ -1,5 +1,5 @@
 -- One slot more is opened, or the first cause why not.
-use Rattle.std.proofs.Common.{◌≡◌, ◌<◌, ◌≤◌, ◌+◌, ℕ, ◌⊎◌, false, List, [], ◌∷◌, ◌++◌, length, slice_index_or, Option}
+use Rattle.std.proofs.Common.{◌≡◌, ◌≤◌, ℕ, List, [], ◌∷◌, ◌++◌, length, slice_index_or, Option}
 use Rattle.std.proofs.Common.{None, Some, Ok, inl, inr, refl, sym, ap, ◌∙◌, subst, length-append, arith}
 use Rattle.std.specs.Prelude.{Result}
 use Rattle.std.proofs.lemmas.List.{get_or_append_left}
@@ -11,7 +11,7 @@ use Rattle.ce_crew.specs.declared.worker.Worker.{Worker}
 use Rattle.ce_lines.specs.Asks.{IsAsked}
 use Rattle.ce_lines.specs.declared.asked.Asked.TheVariants.{Open, Read, Quit}
 use Rattle.ce_lines.specs.declared.asked.Asked.{Asked}
-use Rattle.ce_orbit.specs.Orbit.{ForwardOrbit, IsForwardOrbit, HasOrbitWithin}
+use Rattle.ce_orbit.specs.Orbit.{ForwardOrbit, IsForwardOrbit}
 use Rattle.ce_rows.specs.Rows.{EnclosesRows}
 use Rattle.ce_rows.specs.declared.interval.Interval.{Interval}
 use Rattle.ce_thurston.specs.Indices.{rows_at}
@@ -19,8 +19,8 @@ use Rattle.ce_words.specs.Seats.{board_run}
 use Rattle.ce_words.specs.Views.{rows_of}
 use Rattle.ce_desk.proofs.Slots.{at_or_below}
 use Rattle.ce_desk.specs.Cases.{IsOpenSlot, IsOpenCase, AreOpenSlots}
-use Rattle.ce_desk.specs.Desk.{Slot, Desk, early_desk, IsOpenCause, IsFirstCause, IsLateIfOpen, OpensInTime}
-use Rattle.ce_desk.specs.DeskText.{IsReply, opened_text, refused_text}
+use Rattle.ce_desk.specs.Desk.{Slot, early_desk, IsOpenCause, IsFirstCause, IsLateIfOpen, OpensInTime}
+use Rattle.ce_desk.specs.DeskText.{IsReply, opened_text}
 use Rattle.ce_desk.specs.Opening.{HasOpened, HasRoom}
 use Rattle.ce_desk.specs.declared.case.Case.{Case}
 use Rattle.ce_desk.specs.declared.case.Opened.{Opened}

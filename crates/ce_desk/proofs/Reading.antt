@@ -1,5 +1,5 @@
 -- One interval more is read of a slot.
-use Rattle.std.proofs.Common.{◌≡◌, ◌≢◌, ◌<◌, ◌≤◌, ◌+◌, ◌-◌, ◌^◌, ℕ, zero, suc, ◌⊎◌, min, true, List, [], ◌∷◌, ◌++◌}
+use Rattle.std.proofs.Common.{◌≡◌, ◌<◌, ◌≤◌, ◌+◌, ◌-◌, ◌^◌, ℕ, true, List, [], ◌∷◌, ◌++◌}
 use Rattle.std.proofs.Common.{length, slice_index_or, slice_set, Option, None, Some, inl, inr, refl, sym, ap, ◌∙◌}
 use Rattle.std.proofs.Common.{subst, arith}
 use Rattle.std.proofs.lemmas.List.{get_or_default, length-set, get_or-set_same, get_or-set_other}
@@ -8,7 +8,7 @@ use Rattle.ce_lines.specs.Asks.{IsAsked}
 use Rattle.ce_lines.specs.declared.asked.Asked.TheVariants.{Read as AskedRead}
 use Rattle.ce_live.specs.Sessions.{reading, AreNumbered}
 use Rattle.ce_live.specs.declared.reading.Reading.{Reading}
-use Rattle.ce_live.proofs.Readings.{Facts, facts_more}
+use Rattle.ce_live.proofs.Readings.{facts_more}
 use Rattle.ce_rows.specs.Rows.{EnclosesRows}
 use Rattle.ce_rows.specs.declared.act.Act.TheVariants.{LoadsLow, LoadsHigh}
 use Rattle.ce_rows.specs.declared.interval.Interval.{Interval}
@@ -24,7 +24,7 @@ use Rattle.ce_words.specs.declared.view.View.{View}
 use Rattle.ce_desk.proofs.Slots.{eq_or_not}
 use Rattle.ce_desk.specs.Cases.{readings_from, IsFirstOf, AreFirsts, KeepsTurns}
 use Rattle.ce_desk.specs.Desk.{Slot, Desk}
-use Rattle.ce_desk.specs.DeskText.{Reads, IsReply, read_text}
+use Rattle.ce_desk.specs.DeskText.{IsReply, read_text}
 use Rattle.ce_desk.specs.declared.case.Case.{Case}
 use Rattle.ce_desk.specs.declared.case.SlotSeat.{SlotSeat}
 

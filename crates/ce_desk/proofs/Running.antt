@@ -1,5 +1,5 @@
 -- The workers of a crew before and after their runs.
-use Rattle.std.proofs.Common.{Bool, false, ◌≡◌, ◌≢◌, ◌<◌, ◌≤◌, ◌+◌, ◌%◌, ℕ, All, List, [], ◌∷◌, length, slice_index_or}
+use Rattle.std.proofs.Common.{Bool, false, ◌≡◌, ◌<◌, ◌%◌, ℕ, All, List, [], ◌∷◌, length, slice_index_or}
 use Rattle.std.proofs.Common.{Option, None, Some, inl, inr, refl, sym, ap, ◌∙◌, subst, arith}
 use Rattle.std.proofs.Math.Nat.{mod-lt}
 use Rattle.std.specs.Prelude.{Result, Ok, Err, insert, if◌then◌else◌}
@@ -10,8 +10,8 @@ use Rattle.ce_desk.proofs.Dealing.{crew_is, any_of, no_truth}
 use Rattle.ce_desk.proofs.Reading.{no_slot}
 use Rattle.ce_desk.proofs.Slots.{eq_or_not}
 use Rattle.std.proofs.lemmas.List.{get_or_default}
-use Rattle.ce_desk.specs.Actors.{CanRun, CanRunCrew, HasRunCrew, HaveRunCrews, HasRunSession}
-use Rattle.ce_desk.specs.Cases.{AreFirsts, CanRunSlot, HasRunSlot, IsHiredFor, IsDoneFor, KeepsTurns}
+use Rattle.ce_desk.specs.Actors.{CanRun, HaveRunCrews, HasRunSession}
+use Rattle.ce_desk.specs.Cases.{AreFirsts, CanRunSlot, HasRunSlot, IsDoneFor, KeepsTurns}
 use Rattle.ce_desk.specs.Crews.{HasWorker, Owns, AreHired, AreDone, AreCrewsOf}
 use Rattle.ce_desk.specs.Desk.{Slot, Desk}
 use Rattle.ce_desk.specs.ServedInside.{at_start, HasTalkEnded, IsGoingOn}

@@ -1,7 +1,6 @@
 -- Replies keep the slots of a desk sound.
-use Rattle.std.proofs.Common.{◌≡◌, ◌+◌, ℕ, All, List, [], ◌∷◌, ◌++◌, Option, inl, inr, sym, subst}
+use Rattle.std.proofs.Common.{◌+◌, ℕ, All, List, [], ◌∷◌, ◌++◌, Option, inl, inr, sym, subst}
 use Rattle.std.proofs.lemmas.List.Elements.{All-nil, All-cons, All-append, All-set}
-use Rattle.ce_rows.specs.declared.interval.Interval.{Interval}
 use Rattle.ce_desk.specs.Desk.{Slot, Desk}
 use Rattle.ce_desk.specs.DeskText.{Opens, Reads, IsReply, AreReplies, Closes}
 use Rattle.ce_desk.specs.Sound.{IsTrueOf, IsSound}

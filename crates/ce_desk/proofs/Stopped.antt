@@ -1,8 +1,8 @@
 -- What a desk served whose closing lines were written, cut off, or never came.
-use Rattle.std.proofs.Common.{◌≡◌, ◌≤◌, ◌+◌, ◌^◌, ◌⊎◌, ℕ, zero, suc, Bool, false, List, [], ◌∷◌, length, take, drop}
+use Rattle.std.proofs.Common.{◌≡◌, ◌+◌, ◌^◌, ℕ, zero, suc, false, List, [], ◌∷◌, length, take, drop}
 use Rattle.std.proofs.Common.{Option, None, Some}
 use Rattle.std.proofs.Common.{inl, inr, refl, sym, ap, ◌∙◌, subst, arith}
-use Rattle.std.specs.Prelude.{Result, Ok, Err}
+use Rattle.std.specs.Prelude.{Result, Err}
 use Rattle.std.specs.Io.KnownBytes.{Consumes, prepend_known}
 use Rattle.std.proofs.KnownBytes.{Consumes-nil}
 use Rattle.ce_lines.specs.Bytes.{ahead, unread, IsNew}
@@ -16,7 +16,7 @@ use Rattle.ce_desk.specs.Desk.{Desk, empty_desk}
 use Rattle.ce_desk.specs.DeskText.{AllClose, closing_text}
 use Rattle.ce_desk.specs.Served.{ServedAll, ServedSome, stop_of}
 use Rattle.ce_desk.specs.ServedInside.{at_start, StopsBy, HasBegun, IsUnderWay, HasServed}
-use Rattle.ce_desk.specs.Talks.{Streams, streams, HasTalked, HasEnded, IsGood, quits_at}
+use Rattle.ce_desk.specs.Talks.{Streams, streams, HasEnded, IsGood, quits_at}
 use Rattle.ce_desk.specs.declared.closing.Closing.{Closing}
 use Rattle.ce_desk.specs.declared.serving.DeskEnd.{DeskEnd}
 use Rattle.ce_desk.specs.declared.talk.Fault.{Fault}
@@ -121,7 +121,6 @@ module _ {S O : Type 0} (left : S → Option (List ℕ)) (read_faults : S → �
   module _ (desk : Desk) (early : desk.late ≡ false) (next : Result ℕ TalkEnd)
       (h : IsUnderWay left read_faults taken write_faults rounds exponent source out t next desk)
       (one : t.lines.bytes.given ≡ 2 ^ 20 + 1 → length (ahead t.lines.bytes) ≡ 1)
-      (few : length (ahead t.lines.bytes) ≤ 512)
       (e : DeskEnd S O) (source_is : e.source ≡ t.lines.bytes.source) (out_is : e.out ≡ t.out) where
     early_some : ServedSome rounds exponent (left source) now.left (taken out) now.taken
     early_some = next_some left read_faults taken write_faults rounds exponent source out t desk []
@@ -135,7 +134,7 @@ module _ {S O : Type 0} (left : S → Option (List ℕ)) (read_faults : S → �
         (Failed fault) (subst
         (λ (n : Result ℕ TalkEnd). IsUnderWay left read_faults taken write_faults rounds
         exponent source out t n desk) is h)
-        fault stop (λ good. absurd good) (λ bad. (refl, refl)) one few early_some
+        fault stop (λ good. absurd good) (λ bad. (refl, refl)) one early_some
     stopped_served fault stop (inr is) =
         starved_served left read_faults taken write_faults rounds exponent source out t desk
         (next_later rounds exponent start next desk t.count now h) t refl (omega arith) e source_is out_is

@@ -1,17 +1,15 @@
 -- A talk grows by a line and its reply.
-use Rattle.std.proofs.Common.{◌≡◌, ◌≤◌, ◌+◌, ◌^◌, ℕ, List, [], ◌∷◌, ◌++◌, length, true, Option, None, Some, Ok, Err}
-use Rattle.std.proofs.Common.{inl, inr, refl, sym, ap, ◌∙◌, subst, append_assoc, append-nil, length-append, arith}
-use Rattle.std.specs.Io.KnownBytes.{Consumes}
+use Rattle.std.proofs.Common.{◌≡◌, ◌≤◌, ◌+◌, ℕ, List, [], ◌∷◌, ◌++◌, true, Option, None, Some, Ok, Err}
+use Rattle.std.proofs.Common.{inr, refl, sym, ap, ◌∙◌, subst, length-append, arith}
 use Rattle.std.specs.Prelude.{Result}
 use Rattle.std.specs.Prelude.{IfOk}
 use Rattle.std.specs.Result.{IfErr, IsErr, IsErrAnd}
-use Rattle.std.proofs.KnownBytes.{Consumes-trans, Consumes-nil}
+use Rattle.std.proofs.KnownBytes.{Consumes-nil}
 use Rattle.ce_lines.specs.Asks.{IsAsked}
 use Rattle.ce_lines.specs.Bytes.{WasGiven}
-use Rattle.ce_lines.specs.Lines.{TookOne, TookLines, TookFormless}
+use Rattle.ce_lines.specs.Lines.{TookOne, TookLines}
 use Rattle.ce_lines.specs.declared.asked.Asked.{Asked}
-use Rattle.ce_port.specs.ReadAll.{Gave}
-use Rattle.ce_port.specs.Sink.{GrewBy, Rose}
+use Rattle.ce_port.specs.Sink.{GrewBy}
 use Rattle.ce_port.specs.WriteAll.{GrewByPrefix}
 use Rattle.ce_port.proofs.Grown.{GrewBy-trans}
 use Rattle.ce_port.proofs.Paging.{prefix-after, none-prefix}
@@ -90,6 +88,7 @@ module _ {S O : Type 0} (left : S → Option (List ℕ)) (read_faults : S → �
           to _ h.0,
           rose_since start.read_faults (now t).read_faults
               (now u).read_faults talked.later.read h.1,
+          h.2,
         )
         hears_end (Failed WriteFault) h = absurd h
         hears_end (Failed NoMemory) h = absurd h

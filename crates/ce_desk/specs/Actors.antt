@@ -1,5 +1,5 @@
 -- Session and crew: what each needs and does. Source: this project's choice.
-use Rattle.std.specs.Prelude.{◌≡◌, ℕ, ◌<◌, ◌≤◌, true, List, length, slice_index_or, Option, Result, Ok, Err}
+use Rattle.std.specs.Prelude.{◌≡◌, ℕ, ◌<◌, List, length, slice_index_or, Option, Ok, Err}
 use Rattle.ce_crew.specs.declared.worker.Worker.{Worker}
 use Rattle.ce_desk.specs.Cases.{AreFirsts, KeepsTurns, CanRunSlot, HasRunSlot}
 use Rattle.ce_desk.specs.Desk.{Slot, Desk}

@@ -1,15 +1,11 @@
 -- The opened angles behind a desk: what session and crew own of each. Source: this project's choice.
-use Rattle.std.specs.Prelude.{◌≡◌, ℕ, ◌+◌, ◌<◌, ◌≤◌, ⊤, List, [], ◌∷◌, length, slice_index_or, Option, None, Some}
-use Rattle.std.specs.Prelude.{Result, Ok}
+use Rattle.std.specs.Prelude.{◌≡◌, ℕ, ◌+◌, ◌<◌, ⊤, List, [], ◌∷◌, length, slice_index_or, Option, None, Some}
 use Rattle.atomic_table.specs.declared.shared.Seat.{Seat}
-use Rattle.ce_angle.specs.Fraction.{Fraction}
-use Rattle.ce_angle.specs.declared.angle.AngleError.{AngleError}
 use Rattle.ce_crew.specs.Gains.{IsGraphOf}
 use Rattle.ce_crew.specs.Workers.{IsWorker}
 use Rattle.ce_crew.specs.declared.worker.Worker.{Worker}
 use Rattle.ce_live.specs.Sessions.{reading, read_log, NeverWiden}
 use Rattle.ce_live.specs.declared.reading.Reading.{Reading}
-use Rattle.ce_orbit.specs.Orbit.{HasOrbitWithin}
 use Rattle.ce_rows.specs.Rows.{ScaledRows, EnclosesRows}
 use Rattle.ce_rows.specs.declared.interval.Interval.{Interval}
 use Rattle.ce_solve.specs.Actors.{IsHiredWorker, IsOverWorker, HasRunWorker}
@@ -21,7 +17,7 @@ use Rattle.ce_words.specs.Views.{view, part, seen_low, seen_high, rows_of}
 use Rattle.ce_words.specs.declared.board.Board.{Board}
 use Rattle.ce_words.specs.declared.view.Role.TheVariants.{First}
 use Rattle.ce_words.specs.declared.view.View.{View}
-use Rattle.ce_desk.specs.Desk.{Slot, IsOpened}
+use Rattle.ce_desk.specs.Desk.{Slot}
 use Rattle.ce_desk.specs.declared.case.Case.{Case}
 use Rattle.ce_desk.specs.declared.case.Opened.{Opened}
 use Rattle.ce_desk.specs.declared.case.SlotSeat.{SlotSeat}

@@ -1,11 +1,11 @@
 -- Which actor of a crew owns which workers. Source: this project's choice.
-use Rattle.std.specs.Prelude.{◌≡◌, ◌≢◌, ℕ, ◌+◌, ◌%◌, ◌<◌, ◌≤◌, All, List, [], length, slice_index_or, slice_set, Option}
+use Rattle.std.specs.Prelude.{◌≡◌, ◌≢◌, ℕ, ◌%◌, ◌<◌, All, List, length, slice_index_or, Option}
 use Rattle.std.specs.Prelude.{None, Some}
 use Rattle.ce_crew.specs.declared.worker.Worker.{Worker}
 use Rattle.ce_desk.specs.Cases.{IsHiredFor, IsDoneFor, IsCase}
 use Rattle.ce_desk.specs.Desk.{Slot}
 use Rattle.ce_desk.specs.declared.actor.Actor.{Actor}
-use Rattle.ce_desk.specs.declared.actor.Actor.TheVariants.{Session as ASession, Crew as ACrew}
+use Rattle.ce_desk.specs.declared.actor.Actor.TheVariants.{Crew as ACrew}
 use Rattle.ce_desk.specs.declared.case.Case.{Case}
 use Rattle.ce_desk.specs.declared.crew.Crew.{Crew}
 

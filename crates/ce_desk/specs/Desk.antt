@@ -1,5 +1,5 @@
 -- A desk between two lines, and why a line is refused. Source: this project's choice.
-use Rattle.std.specs.Prelude.{◌≡◌, ℕ, ◌≤◌, ◌<◌, Bool, true, false, List, [], ◌∷◌, length, Option, None, Some, Result}
+use Rattle.std.specs.Prelude.{◌≡◌, ℕ, ◌≤◌, ◌<◌, Bool, true, false, List, [], length, Option, None, Some, Result}
 use Rattle.std.specs.Prelude.{Ok, Err, ⊤}
 use Rattle.ce_angle.specs.Fraction.{Fraction}
 use Rattle.ce_angle.specs.Typed.{angle_of_text}
@@ -16,6 +16,7 @@ use Rattle.ce_words.specs.Views.{rows_of}
 use Rattle.ce_words.specs.declared.view.Run.{Run}
 use Rattle.ce_desk.specs.declared.cause.Cause.{Cause}
 use Rattle.ce_desk.specs.declared.cause.Cause.TheVariants.{Form, Late, Angle, OrbitTooLong, Full, NoSlot, NoMemory}
+use Rattle.ce_orbit.specs.Iterates.{most_places}
 
 -- An opened angle: the turns that its worker was granted, its run, and the intervals that were read, in order.
 pub record Slot : Type 0 where
@@ -67,9 +68,9 @@ pub record ReadsNone (desk : Desk) (line : Option (List ℕ)) : Type 0 where
 -- others.
 abbrev pub IsOpenCause : ℕ → Result Fraction AngleError → Cause → Type 0
 IsOpenCause count typed (Angle error) = typed ≡ Err error
-IsOpenCause count typed OrbitTooLong = (x : Fraction) × (typed ≡ Ok x) × HasOrbitAbove 128 x
-IsOpenCause count typed Full = (x : Fraction) × (typed ≡ Ok x) × HasOrbitWithin 128 x × (most_slots ≤ count)
-IsOpenCause count typed NoMemory = (x : Fraction) × (typed ≡ Ok x) × HasOrbitWithin 128 x × (count < most_slots)
+IsOpenCause count typed OrbitTooLong = (x : Fraction) × (typed ≡ Ok x) × HasOrbitAbove most_places x
+IsOpenCause count typed Full = (x : Fraction) × (typed ≡ Ok x) × HasOrbitWithin most_places x × (most_slots ≤ count)
+IsOpenCause count typed NoMemory = (x : Fraction) × (typed ≡ Ok x) × HasOrbitWithin most_places x × (count < most_slots)
 IsOpenCause count typed _ = ⊥
 
 -- Where a line is to open an angle, this may no longer be done.

@@ -1,6 +1,6 @@
 -- The text of a desk. Source: this project's choice.
 use Rattle.std.specs.Prelude.{◌≡◌, ℕ, ◌+◌, ◌<◌, ◌⊎◌, Bool, true, false, if◌then◌else◌, List, [], ◌∷◌, ◌++◌, length}
-use Rattle.std.specs.Prelude.{codes, ⊤}
+use Rattle.std.specs.Prelude.{codes}
 use Rattle.std.specs.Prelude.{Option, Some, Ok, slice_index_or, slice_set}
 use Rattle.std.specs.Fmt.{decimal}
 use Rattle.ce_angle.specs.Fraction.{Fraction}
@@ -25,6 +25,7 @@ use Rattle.ce_desk.specs.Desk.{Slot, Desk, empty_desk, most_slots, OpensInTime, 
 use Rattle.ce_desk.specs.declared.cause.Cause.{Cause}
 use Rattle.ce_desk.specs.declared.cause.Cause.TheVariants.{Form, Late, Angle, OrbitTooLong, Full, NoSlot, NoMemory}
 use Rattle.ce_desk.specs.declared.closing.Closing.{Closing}
+use Rattle.ce_orbit.specs.Iterates.{most_places}
 
 abbrev pub opened_text : ℕ → Fraction → Interval → List ℕ
 opened_text slot angle initial =
@@ -65,7 +66,7 @@ pub record Opens (rounds exponent : ℕ) (desk : Desk) (line : Option (List ℕ)
   pub turns : ℕ
   pub in_time : OpensInTime desk line word turns
   pub typed : angle_of_text word ≡ Ok slot.angle
-  pub short : HasOrbitWithin 128 slot.angle
+  pub short : HasOrbitWithin most_places slot.angle
   pub room : length desk.slots < most_slots
   pub opened : IsOpened rounds exponent short.orbit turns slot
   pub after_is : after ≡ record desk { slots = desk.slots ++ slot ∷ [] }

@@ -8,6 +8,7 @@ use Rattle.ce_desk.specs.Cases.{AreOpenSlots}
 use Rattle.ce_desk.specs.Desk.{Slot, IsOpened, most_slots}
 use Rattle.ce_desk.specs.declared.opening.Slots.{Slots}
 use Rattle.ce_desk.specs.declared.settings.DeskSettings.{DeskSettings}
+use Rattle.ce_orbit.specs.Iterates.{most_places}
 
 -- The memory for the most slots is there, and each slot has its case, its first seat and its worker.
 pub record HasRoom (s : Slots) : Type 0 where
@@ -23,7 +24,7 @@ pub record HasOpened (settings : DeskSettings) (typed : Result Fraction AngleErr
     (told : Fraction × Interval) : Type 0 where
   pub slot : Slot
   pub typed_is : typed ≡ Ok slot.angle
-  pub short : HasOrbitWithin 128 slot.angle
+  pub short : HasOrbitWithin most_places slot.angle
   pub opened : IsOpened settings.rounds settings.scale short.orbit turns slot
   pub angle : told.0 ≡ slot.angle
   pub initial : told.1 ≡ slot.run.initial

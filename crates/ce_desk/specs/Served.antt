@@ -1,6 +1,6 @@
 -- What a desk did to its source and its sink, by the way that it ended. Source: this project's choice.
-use Rattle.std.specs.Prelude.{◌≡◌, ◌≢◌, ℕ, ◌+◌, ◌^◌, ◌≤◌, ◌⊎◌, Bool, true, false, List, [], ◌∷◌, All, Option, Some}
-use Rattle.std.specs.Prelude.{codes, length}
+use Rattle.std.specs.Prelude.{◌≢◌, ℕ, ◌+◌, ◌^◌, ◌≤◌, ◌⊎◌, Bool, true, false, List, [], ◌∷◌, All, Option, Some}
+use Rattle.std.specs.Prelude.{codes}
 use Rattle.std.specs.Io.KnownBytes.{Consumes, IsAtEnd}
 use Rattle.ce_lines.specs.Lines.{TookLine, TookLines, TookPart}
 use Rattle.ce_port.specs.ReadAll.{Gave}
@@ -81,12 +81,3 @@ pub record AnsweredEach (rounds exponent beyond : ℕ)
   pub text : List ℕ
   pub replies : AreReplies rounds exponent 1 empty_desk lines desk text
   pub grew : GrewBy taken taken_after text
-
--- the most bytes that stand ahead of a line
-abbrev pub most_ahead : ℕ
-most_ahead = 512
-
--- The same, and no more bytes stood ahead than may.
-abbrev pub AnsweredAhead : ℕ → ℕ → Option (List ℕ) → Option (List ℕ) → Option (List ℕ) → Option (List ℕ) → Type 0
-AnsweredAhead rounds exponent left left_after taken taken_after =
-    (beyond : ℕ) × (beyond ≤ most_ahead) × AnsweredEach rounds exponent beyond left left_after taken taken_after

@@ -2,7 +2,7 @@
 use Rattle.std.specs.Prelude.{◌≡◌, ◌≢◌, ℕ, ◌≤◌, ◌⊎◌, List, Option, Result, Err}
 use Rattle.ce_port.specs.Sink.{Rose}
 use Rattle.ce_desk.specs.Desk.{Desk, empty_desk}
-use Rattle.ce_desk.specs.Served.{ServedAll, ServedSome, IsTooLong, AnsweredEach, AnsweredAhead}
+use Rattle.ce_desk.specs.Served.{ServedAll, ServedSome, IsTooLong, AnsweredEach}
 use Rattle.ce_desk.specs.Talks.{Streams, streams, IsTalk, HasTalked, HasEnded, IsNext}
 use Rattle.ce_desk.specs.declared.serving.DeskEnd.{DeskEnd}
 use Rattle.ce_desk.specs.declared.serving.DeskStop.TheVariants.{Done, InputTooLong, ReadFault, WriteFault}
@@ -60,8 +60,8 @@ module _ {S O : Type 0} (left : S → Option (List ℕ)) (read_faults : S → �
     pub too_long : end.stop ≡ InputTooLong → IsTooLong (left source) (left end.source)
     pub answered : end.stop ≡ InputTooLong
         → AnsweredEach rounds exponent 1 (left source) (left end.source) (taken out) (taken end.out)
-    pub answered_ahead : end.stop ≡ ReadFault
-        → AnsweredAhead rounds exponent (left source) (left end.source) (taken out) (taken end.out)
+    pub answered_all : end.stop ≡ ReadFault
+        → AnsweredEach rounds exponent 0 (left source) (left end.source) (taken out) (taken end.out)
     pub read_fault : end.stop ≡ ReadFault → Rose (read_faults source) (read_faults end.source)
     pub write_fault : end.stop ≡ WriteFault → Rose (write_faults out) (write_faults end.out)
     pub read : read_faults source ≤ read_faults end.source

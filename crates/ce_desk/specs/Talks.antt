@@ -1,5 +1,5 @@
 -- A talk: lines that were taken, and replies that were written. Source: this project's choice.
-use Rattle.std.specs.Prelude.{◌≡◌, ℕ, ◌+◌, ◌^◌, ◌≤◌, ⊤, Bool, true, false, List, [], ◌++◌, Option, None, Some, Result}
+use Rattle.std.specs.Prelude.{◌≡◌, ℕ, ◌+◌, ◌^◌, ◌≤◌, ⊤, Bool, true, false, List, [], Option, None, Some, Result}
 use Rattle.std.specs.Prelude.{Ok, Err, length}
 use Rattle.std.specs.Io.KnownBytes.{Consumes, IsAtEnd}
 use Rattle.ce_lines.specs.Asks.{IsAsked}
@@ -12,7 +12,6 @@ use Rattle.ce_port.specs.Sink.{GrewBy, Rose}
 use Rattle.ce_port.specs.WriteAll.{GrewByPrefix}
 use Rattle.ce_desk.specs.Desk.{Desk, empty_desk}
 use Rattle.ce_desk.specs.DeskText.{AreReplies}
-use Rattle.ce_desk.specs.declared.talk.Fault.{Fault}
 use Rattle.ce_desk.specs.declared.talk.Fault.TheVariants.{InputTooLong, Read as ReadFault, Write as WriteFault}
 use Rattle.ce_desk.specs.declared.talk.Fault.TheVariants.{NoMemory}
 use Rattle.ce_desk.specs.declared.talk.Talk.{Talk}
@@ -64,6 +63,7 @@ HearsEnd left faults old new (Failed InputTooLong) =
 HearsEnd left faults old new (Failed ReadFault) =
     TookPart (unread left old.lines.bytes) (unread left new.lines.bytes)
     × Rose (faults old.lines.bytes.source) (faults new.lines.bytes.source)
+    × (unread left new.lines.bytes ≡ left new.lines.bytes.source)
 HearsEnd left faults old new _ = ⊥
 
 -- A reply was cut off: the sink failed, or memory was refused.
@@ -134,7 +134,7 @@ module _ (rounds exponent : ℕ) (start : Streams) where
       × (now.given ≤ 2 ^ 20)
   HasEnded (Failed InputTooLong) desk now = (count : ℕ) × HasTalkedTo TookPart desk count now × (now.given ≡ 2 ^ 20 + 1)
   HasEnded (Failed ReadFault) desk now = (count : ℕ) × HasTalkedTo TookPart desk count now
-      × Rose start.read_faults now.read_faults
+      × Rose start.read_faults now.read_faults × (now.ahead ≡ now.left)
   HasEnded (Failed WriteFault) desk now = WasCutOff desk now × Rose start.write_faults now.write_faults
   HasEnded (Failed NoMemory) desk now = WasCutOff desk now
 

@@ -11,7 +11,7 @@ ghost use Rattle.ce_desk.specs.Desk.{Slot, Desk, most_slots};
 ghost use Rattle.ce_desk.specs.DeskText.{AllClose};
 ghost use Rattle.ce_desk.specs.Opening.{HasRoom};
 ghost use Rattle.ce_desk.specs.Served.{ServedAll, ServedSome, IsTooLong, AnsweredEach};
-ghost use Rattle.ce_desk.specs.Served.{AnsweredAhead, stop_of};
+ghost use Rattle.ce_desk.specs.Served.{stop_of};
 ghost use Rattle.ce_desk.specs.ServedInside.{StopsBy, HasBegun, IsUnderWay, IsGoingOn};
 ghost use Rattle.ce_desk.specs.ServedInside.{HasTalkEnded, HasServed};
 ghost use Rattle.ce_desk.specs.Talks.{IsTalk};
@@ -264,8 +264,8 @@ pub fn serve<R: Threads + Sync, S: Source + Send + Drop, O: Sink + Send + Drop, 
     // Each line before the byte that was too much was answered whole, and no closing line came.
     ensures answered { result.stop ≡ InputTooLong → AnsweredEach settings.rounds settings.scale 1
         (S.left source) (S.left result.source) (O.taken out) (O.taken result.out) }
-    // So was each line before a read that failed, but those that stood ahead.
-    ensures answered_ahead { result.stop ≡ ReadFault → AnsweredAhead settings.rounds settings.scale
+    // So was each line before a read that failed.
+    ensures answered_all { result.stop ≡ ReadFault → AnsweredEach settings.rounds settings.scale 0
         (S.left source) (S.left result.source) (O.taken out) (O.taken result.out) }
     ensures read_fault { result.stop ≡ ReadFault → Rose (S.faults source) (S.faults result.source) }
     ensures write_fault { result.stop ≡ WriteFault → Rose (O.faults out) (O.faults result.out) }

@@ -1,5 +1,5 @@
 -- A line that comes byte by byte.
-use Rattle.std.proofs.Common.{◌≡◌, ◌≢◌, ◌≤◌, ◌<◌, ◌+◌, ℕ, All, min, List, [], ◌∷◌, ◌++◌, length, take, slice_set}
+use Rattle.std.proofs.Common.{◌≡◌, ◌≢◌, ◌≤◌, ◌<◌, ◌+◌, ℕ, min, List, [], ◌∷◌, ◌++◌, length, take, slice_set}
 use Rattle.std.proofs.Common.{Option, inl, inr, refl, sym, ap, subst, ◌∙◌, arith, length-append, append-nil}
 use Rattle.std.proofs.lemmas.List.{take_more_set}
 use Rattle.std.proofs.lemmas.List.Elements.{All-append, All-cons}
@@ -7,7 +7,7 @@ use Rattle.std.specs.Io.KnownBytes.{Consumes, IsAtEnd}
 use Rattle.std.proofs.KnownBytes.{Consumes-trans, Consumes-nil}
 use Rattle.ce_lines.specs.Bytes.{WasGiven}
 use Rattle.ce_lines.specs.declared.byte_reader.ByteReader.{ByteReader}
-use Rattle.ce_lines.specs.Lines.{IsOneLine, TookLine, TookRest, TookFormless, TookPart}
+use Rattle.ce_lines.specs.Lines.{IsOneLine, TookLine, TookFormless, TookPart}
 
 -- Bytes of a line were taken: so many, where 64 stands for all greater lengths, and they stand at the front of a buffer
 -- where they are few.

@@ -49,7 +49,7 @@ pub struct ByteReader<S> {
 }
 
 impl<S: Source> ByteReader<S> {
-    ghost use Rattle.ce_lines.specs.Bytes.{IsReader, unread, room_left, IsNew, WasGiven};
+    ghost use Rattle.ce_lines.specs.Bytes.{IsReader, ahead, unread, room_left, IsNew, WasGiven};
 
     /// No byte was read yet.
     pub fn new(source: S) -> ByteReader<S>
@@ -77,6 +77,7 @@ impl<S: Source> ByteReader<S> {
             (λ _. (self.new.from < self.new.to) × (self.new.given ≤ 2 ^ 20)) }
         ensures room { room_left self.new ≤ room_left self.old }
         ensures end { result ≡ Err Stop.End → IsAtEnd (unread S.left self.new) }
+        ensures drained { result ≡ Err Stop.Failed → ahead self.new ≡ [] }
         ensures long { result ≡ Err Stop.TooLong → self.new.given ≡ 2 ^ 20 + 1 }
         ensures short { (result ≡ Err Stop.TooLong → ⊥) → self.new.given ≤ 2 ^ 20 }
         ensures failed { result ≡ Err Stop.Failed
@@ -127,6 +128,7 @@ impl<S: Source> ByteReader<S> {
         ensures less { IfOk result (λ _. room_left self.new < room_left self.old) }
         ensures room { room_left self.new ≤ room_left self.old }
         ensures end { result ≡ Err Stop.End → IsAtEnd (unread S.left self.new) }
+        ensures drained { result ≡ Err Stop.Failed → ahead self.new ≡ [] }
         ensures long { result ≡ Err Stop.TooLong → self.new.given ≡ 2 ^ 20 + 1 }
         ensures short { (result ≡ Err Stop.TooLong → ⊥) → self.new.given ≤ 2 ^ 20 }
         ensures failed { result ≡ Err Stop.Failed

@@ -4,7 +4,7 @@ ghost use Rattle.std.specs.Prelude.{slice_set, Option, IfOk, Ok, Err, Some, None
 ghost use Rattle.std.specs.Result.{IfErr};
 ghost use Rattle.std.specs.Io.KnownBytes.{Consumes, IsAtEnd};
 ghost use Rattle.ce_port.specs.Sink.{Rose};
-ghost use Rattle.ce_lines.specs.Bytes.{IsReader, unread, room_left, WasGiven};
+ghost use Rattle.ce_lines.specs.Bytes.{IsReader, ahead, unread, room_left, WasGiven};
 ghost use Rattle.ce_lines.specs.Asks.{IsAsked};
 ghost use Rattle.ce_lines.specs.Lines.{TookLine, TookFormless, TookOne, TookPart};
 
@@ -64,6 +64,7 @@ impl<S: Source> LineReader<S> {
             (λ _. TookPart (unread S.left self.old.bytes) (unread S.left self.new.bytes)) }
         ensures end { result ≡ Err Stop.End → IsAtEnd (unread S.left self.new.bytes)
             × Consumes (unread S.left self.old.bytes) (unread S.left self.new.bytes) [] }
+        ensures drained { result ≡ Err Stop.Failed → ahead self.new.bytes ≡ [] }
         ensures room { IfOk result (λ _. room_left self.new.bytes < room_left self.old.bytes) }
         ensures most { room_left self.new.bytes ≤ room_left self.old.bytes }
         ensures failed { result ≡ Err Stop.Failed
@@ -96,6 +97,7 @@ impl<S: Source> LineReader<S> {
             (λ _. TookPart (unread S.left self.old.bytes) (unread S.left self.new.bytes)) }
         ensures end { result ≡ Err Stop.End → IsAtEnd (unread S.left self.new.bytes)
             × Consumes (unread S.left self.old.bytes) (unread S.left self.new.bytes) [] }
+        ensures drained { result ≡ Err Stop.Failed → ahead self.new.bytes ≡ [] }
         ensures room { IfOk result (λ _. room_left self.new.bytes < room_left self.old.bytes) }
         ensures most { room_left self.new.bytes ≤ room_left self.old.bytes }
         ensures failed { result ≡ Err Stop.Failed

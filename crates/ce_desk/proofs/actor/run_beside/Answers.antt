@@ -1,4 +1,4 @@
-use Rattle.std.proofs.Common.{◌≡◌, List, length, drop, slice_index_or, sym, ap, ◌∙◌, subst}
+use Rattle.std.proofs.Common.{List, drop, slice_index_or, sym, ap, ◌∙◌, subst}
 use Rattle.std.proofs.lemmas.List.{with_items_is}
 use Rattle.ce_desk.specs.Actors.{HasRunSession}
 use Rattle.ce_desk.specs.declared.actor.Actor.{Actor}

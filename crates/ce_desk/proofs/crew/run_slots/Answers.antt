@@ -1,9 +1,7 @@
-use Rattle.std.proofs.Common.{◌≡◌, ◌<◌, ◌≤◌, length, slice_index_or, sym, subst, arith}
-use Rattle.std.specs.Prelude.{Option}
-use Rattle.ce_crew.specs.declared.worker.Worker.{Worker}
-use Rattle.ce_desk.specs.Cases.{CanRunSlot, HasRunSlot}
+use Rattle.std.proofs.Common.{◌≡◌, slice_index_or, subst, arith}
+use Rattle.ce_desk.specs.Cases.{CanRunSlot}
 use Rattle.ce_desk.specs.declared.case.Case.{Case}
-use Rattle.ce_desk.proofs.Slots.{can_run_slot, ran_slot, none_ran, all_ran}
+use Rattle.ce_desk.proofs.Slots.{can_run_slot}
 use Rattle.ce_desk.proofs.crew.run_slots.Goals as goal
 
 pub run_slot-requires : goal.run_slot-requires

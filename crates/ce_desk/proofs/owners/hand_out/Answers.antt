@@ -1,4 +1,4 @@
-use Rattle.std.proofs.Common.{◌≡◌, length, sym, ap, ◌∙◌, arith}
+use Rattle.std.proofs.Common.{length, sym, ap, ◌∙◌, arith}
 use Rattle.ce_desk.proofs.Dealing.{crew_is, handed_out}
 use Rattle.std.proofs.lemmas.List.{get_or_default}
 use Rattle.ce_desk.specs.declared.crew.Crew.{Crew}

@@ -1,4 +1,4 @@
-use Rattle.std.proofs.Common.{◌≡◌, ◌<◌, ◌≤◌, ◌+◌, ℕ, List, length, sym, subst, rules, arith, vec_capacity}
+use Rattle.std.proofs.Common.{◌≡◌, ◌+◌, List, length, sym, subst, rules, arith}
 use Rattle.ce_desk.proofs.Dealing.{pushed, crews_more, none_more}
 use Rattle.ce_desk.specs.Crews.{AreCrewsOf, HaveNone}
 use Rattle.ce_desk.specs.declared.actor.Actor.{Actor}

@@ -1,7 +1,6 @@
-use Rattle.std.proofs.Common.{◌≡◌, List, ℕ, length, refl, sym, ap, ◌∙◌, subst, rules}
+use Rattle.std.proofs.Common.{◌≡◌, List, length, refl, sym, ap, ◌∙◌, subst, rules}
 use Rattle.ce_port.specs.Sink.{GrewBy}
 use Rattle.ce_port.specs.WriteAll.{GrewByPrefix}
-use Rattle.ce_desk.proofs.Answered.{few_ahead}
 use Rattle.ce_desk.proofs.Concluded.{done_served, fault_served, cut_is_fault, one_ahead, ended_later}
 use Rattle.ce_desk.proofs.Stopped.{closed_all, closed_some}
 use Rattle.ce_desk.specs.DeskText.{closing_text}
@@ -54,7 +53,6 @@ returns g c = λ rounds exponent source out desk ended close.
     (e.cut good))
     (λ bad. (sym c.in-Fault.is ∙ (e.fault bad).0, (e.fault bad).1))
     (one_ahead c.args.talk.lines.bytes ended.1.reader long)
-    (few_ahead c.args.talk.lines.bytes ended.1.reader)
     (closed_some g.S.Source.left g.S.Source.faults g.O.Sink.taken g.O.Sink.faults rounds
     exponent source out c.args.talk desk
     c.args.closings.items close c.args.end ended.0 (g.O.Sink.taken u.out)

@@ -1,4 +1,4 @@
-use Rattle.std.proofs.Common.{All, ◌≡◌, ◌<◌, ◌≤◌, ◌∷◌, List, length, sym, ap, ◌∙◌, subst, vec_capacity, rules, arith}
+use Rattle.std.proofs.Common.{All, ◌≡◌, ◌<◌, ◌≤◌, List, length, sym, subst, vec_capacity, rules, arith}
 use Rattle.std.specs.Prelude.{vec_len}
 use Rattle.std.proofs.lemmas.List.Elements.{All-cons}
 use Rattle.ce_desk.proofs.Dealing.{no_room}

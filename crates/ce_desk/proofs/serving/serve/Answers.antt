@@ -1,4 +1,3 @@
-use Rattle.std.proofs.Common.{◌≡◌}
 use Rattle.ce_desk.proofs.Stopped.{has_begun}
 use Rattle.ce_desk.proofs.serving.serve.Goals as goal
 
@@ -39,12 +38,12 @@ returns-clause-answered g c =
     c.args.settings.scale c.args.source c.args.out c.new.result c.new.ensures.lines c.new.ensures.out
     c.new.ensures.count)).answered
 
-pub returns-clause-answered_ahead : goal.returns-clause-answered_ahead
-returns-clause-answered_ahead g c =
+pub returns-clause-answered_all : goal.returns-clause-answered_all
+returns-clause-answered_all g c =
     (c.open_and_run.ensures c.args.source c.args.out
     (has_begun g.S.Source.left g.S.Source.faults g.O.Sink.taken g.O.Sink.faults c.args.settings.rounds
     c.args.settings.scale c.args.source c.args.out c.new.result c.new.ensures.lines c.new.ensures.out
-    c.new.ensures.count)).answered_ahead
+    c.new.ensures.count)).answered_all
 
 pub returns-clause-read_fault : goal.returns-clause-read_fault
 returns-clause-read_fault g c =

@@ -1,5 +1,4 @@
-use Rattle.std.proofs.Common.{◌≡◌, length, refl, rules}
-use Rattle.ce_desk.proofs.Answered.{few_ahead}
+use Rattle.std.proofs.Common.{◌≡◌, length, rules}
 use Rattle.ce_desk.proofs.Concluded.{one_ahead}
 use Rattle.ce_desk.proofs.Stopped.{stopped_served}
 use Rattle.ce_desk.proofs.serving.stopped_early.Goals as goal
@@ -10,5 +9,4 @@ returns g c = λ rounds exponent source out desk next early by h.
     stopped_served g.S.Source.left g.S.Source.faults g.O.Sink.taken g.O.Sink.faults rounds exponent
     source out c.args.talk desk early
     next h (one_ahead c.args.talk.lines.bytes c.requires.reader long)
-    (few_ahead c.args.talk.lines.bytes c.requires.reader) c.stopped.result c.stopped.ensures.source
-    c.stopped.ensures.out c.args.fault c.stopped.ensures.stop by
+    c.stopped.result c.stopped.ensures.source c.stopped.ensures.out c.args.fault c.stopped.ensures.stop by

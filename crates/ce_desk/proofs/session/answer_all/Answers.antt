@@ -1,4 +1,4 @@
-use Rattle.std.proofs.Common.{ℕ, subst, arith}
+use Rattle.std.proofs.Common.{ℕ, subst}
 use Rattle.std.specs.Prelude.{Result}
 use Rattle.ce_desk.specs.Talks.{streams, IsNext}
 use Rattle.ce_desk.specs.declared.talk.TalkEnd.{TalkEnd}

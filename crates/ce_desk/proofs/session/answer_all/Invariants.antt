@@ -1,4 +1,4 @@
-use Rattle.std.proofs.Common.{◌≡◌, ◌≤◌, ◌<◌, ◌+◌, ◌*◌, ℕ, List, length}
+use Rattle.std.proofs.Common.{◌<◌, ◌+◌, ◌*◌, ℕ, List, length}
 use Rattle.std.specs.Prelude.{IfOk}
 use Rattle.ce_lines.specs.Bytes.{room_left}
 use Rattle.ce_desk.specs.Cases.{AreFirsts, KeepsTurns}

@@ -1,5 +1,4 @@
-use Rattle.std.proofs.Common.{refl}
-use Rattle.ce_lines.proofs.Asks.{formless_open, formless_read, formless_other, if_none}
+use Rattle.ce_lines.proofs.Asks.{formless_open, formless_other, if_none}
 use Rattle.ce_lines.proofs.asked.asked_by.Goals as goal
 
 pub returns-then-is_word-clause-none : goal.returns-then-is_word-clause-none

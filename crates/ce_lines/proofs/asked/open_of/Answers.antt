@@ -1,5 +1,5 @@
 use Rattle.std.proofs.Common.{arith}
-use Rattle.ce_lines.proofs.Asks.{no_grant_uncut, no_grant_empty, no_grant_number, no_grant_many}
+use Rattle.ce_lines.proofs.Asks.{no_grant_uncut, no_grant_number, no_grant_many}
 use Rattle.ce_lines.proofs.asked.open_of.Goals as goal
 
 pub returns-in_err-word-clause-none : goal.returns-in_err-word-clause-none

@@ -1,4 +1,4 @@
-use Rattle.ce_desk.proofs.Openings.{has_opened, opens_reply, open_cause}
+use Rattle.ce_desk.proofs.Openings.{has_opened}
 use Rattle.ce_desk.proofs.opening.Slots.open.Goals as goal
 
 pub returns-clause-opened : goal.returns-clause-opened

@@ -1,4 +1,4 @@
-use Rattle.std.proofs.Common.{◌≡◌, ◌≤◌, ℕ, false, List}
+use Rattle.std.proofs.Common.{List}
 use Rattle.ce_lines.specs.Bytes.{room_left}
 use Rattle.ce_desk.specs.Cases.{AreOpenSlots}
 use Rattle.ce_desk.specs.Desk.{Slot, early_desk}

@@ -1,11 +1,11 @@
-use Rattle.std.proofs.Common.{◌≡◌, ℕ, List, Option, Some, None, Ok, Err, inl, inr, subst, refl, sym, ap, ◌∙◌}
+use Rattle.std.proofs.Common.{◌≡◌, Option, Some, subst, refl, sym, ◌∙◌}
 use Rattle.ce_lines.specs.Asks.{IsAsked}
 use Rattle.ce_lines.specs.declared.asked.Asked.{Asked}
 use Rattle.ce_lines.specs.declared.asked.Asked.TheVariants.{Read as AskedRead, Quit as AskedQuit}
 use Rattle.ce_desk.specs.DeskText.{refused_text}
-use Rattle.ce_desk.specs.Talks.{streams, HasHeard, HearsLine}
+use Rattle.ce_desk.specs.Talks.{streams, HasHeard}
 use Rattle.ce_desk.proofs.Openings.{not_open, turns_few}
-use Rattle.ce_desk.proofs.Talking.{hears_line, hears_end, said_reply, said_part, refuses, late_if_open, after_end}
+use Rattle.ce_desk.proofs.Talking.{hears_line, hears_end, said_reply, said_part, refuses, after_end}
 use Rattle.ce_desk.proofs.Talking.{err_is}
 use Rattle.ce_desk.specs.Desk.{early_desk}
 use Rattle.ce_desk.proofs.opening.Slots.take_line.Goals as goal

@@ -2,7 +2,6 @@ use Rattle.std.proofs.Common.{◌≡◌, ℕ, List, subst}
 use Rattle.std.specs.Result.{IfErr}
 use Rattle.ce_port.specs.WriteAll.{GrewByPrefix}
 use Rattle.ce_desk.specs.DeskText.{refused_text}
-use Rattle.ce_desk.proofs.Talking.{hears_line, hears_end, said_reply, said_part}
 use Rattle.ce_desk.proofs.talk.Talk.refuse.Goals as goal
 
 pub returns-clause-part : goal.returns-clause-part

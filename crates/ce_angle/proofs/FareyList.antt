@@ -1,5 +1,6 @@
 -- The fractions that the recurrence lists are the angles up to the order, from the first one on.
-use Rattle.std.proofs.Common.{◌≡◌, ◌<◌, ◌≤◌, ◌*◌, ◌^◌, ◌⊎◌, ◌∙◌, inl, inr, ℕ, zero, suc, true, false, List, [], ◌∷◌, length, refl, sym, ap, subst, arith}
+use Rattle.std.proofs.Common.{◌≡◌, ◌<◌, ◌≤◌, ◌*◌, ◌^◌, ◌⊎◌, ◌∙◌, inl, inr, ℕ, zero, suc, true, false, List, [], ◌∷◌}
+use Rattle.std.proofs.Common.{length, refl, sym, ap, subst, arith}
 use Rattle.std.specs.Prelude.{nat_lt, All, Contains}
 use Rattle.std.specs.List.{AllPairs}
 use Rattle.std.proofs.lemmas.Bool.{cases_lt}
@@ -10,7 +11,8 @@ use Rattle.ce_angle.specs.Fraction.{Fraction, IsAngle}
 use Rattle.ce_angle.specs.Order.{IsBelow}
 use Rattle.ce_angle.specs.Farey.{IsAngleUpTo, AreAnglesUpTo}
 use Rattle.ce_angle.specs.FareyInside.{AreNeighbours, following, fractions_from}
-use Rattle.ce_angle.proofs.FareySteps.{IsNext, next_is, lowest_from_unit, second_within, none_between, above_first, SufficeFrom, suffice-next, suffice-square, none-left}
+use Rattle.ce_angle.proofs.FareySteps.{IsNext, next_is, lowest_from_unit, second_within, none_between, above_first}
+use Rattle.ce_angle.proofs.FareySteps.{SufficeFrom, suffice-next, suffice-square, none-left}
 use Rattle.ce_angle.proofs.Unique.{lowest_terms_unique}
 use Rattle.std.proofs.Math.Nat.{mul-le-mul_right, mul-lt-mul_of_pos_right}
 

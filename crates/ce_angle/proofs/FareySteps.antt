@@ -3,7 +3,8 @@
 use Rattle.std.proofs.Common.{◌≡◌, ◌<◌, ◌≤◌, ◌+◌, ◌-◌, ◌*◌, ◌/◌, inl, inr, ℕ, zero, suc, ap, subst, arith}
 use Rattle.std.specs.Int.{IsGcd, ◌∣◌}
 use Rattle.std.proofs.lemmas.Bool.{cases_lt}
-use Rattle.std.proofs.Math.Nat.{mul-le-mul_left, mul-le-mul_right, le_of_mul-le-mul_left, lt_of_mul-lt-mul_right, div-mul-le_self, lt-div-mul-add, dvd-mul_right, dvd-add_iff_right, one-dvd}
+use Rattle.std.proofs.Math.Nat.{mul-le-mul_left, mul-le-mul_right, le_of_mul-le-mul_left, lt_of_mul-lt-mul_right}
+use Rattle.std.proofs.Math.Nat.{div-mul-le_self, lt-div-mul-add, dvd-mul_right, dvd-add_iff_right, one-dvd}
 use Rattle.std.proofs.lemmas.Nat.Gcd.{dvd_trans}
 
 -- A fraction with a neighbour is in lowest terms.

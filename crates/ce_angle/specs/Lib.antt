@@ -1,5 +1,5 @@
--- In reading order: fractions and angles, lowest terms, what a text types, how an angle is spelled, the order of angles, and
--- all angles up to an order.
+-- In reading order: fractions and angles, lowest terms, what a text types, how an angle is spelled,
+-- the order of angles, and all angles up to an order.
 pub mod Fraction
 pub mod LowestTerms
 pub mod Typed

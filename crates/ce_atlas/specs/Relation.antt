@@ -11,6 +11,7 @@ use Rattle.ce_rows.specs.Scale.{IsExponent}
 use Rattle.ce_solve.specs.declared.angle.Answer.{Answer}
 use Rattle.ce_sweep.specs.Classes.{HaveSameKneading}
 use Rattle.ce_thurston.specs.Indices.{rows_at}
+use Rattle.ce_orbit.specs.Iterates.{most_places}
 
 -- the ends of an answer's interval
 abbrev pub low_of_answer : Answer → ℕ
@@ -24,7 +25,7 @@ pub record IsCertified (exponent : ℕ) (a : Answer) : Type 0 where
   pub orbit : ForwardOrbit
   pub of_angle : orbit.angle ≡ a.angle
   pub is_orbit : IsForwardOrbit orbit
-  pub few : length orbit.places ≤ 128
+  pub few : length orbit.places ≤ most_places
   pub certificate : IsCertificate (rows_at orbit exponent) (evidence_in a.solved.certificate)
 
 -- Two answers have certificates that hold, at one exponent.

@@ -7,6 +7,7 @@ ghost use Rattle.ce_sweep.specs.Classes.{AreClasses};
 ghost use Rattle.ce_atlas.specs.Atlas.{AreRowsOf, EnclosesClass, IsAtlas, IsRowOf};
 ghost use Rattle.ce_atlas.specs.AtlasInside.{AreFirstRows};
 ghost use Rattle.ce_atlas.specs.InternalAddress.{most_entry};
+ghost use Rattle.ce_orbit.specs.Iterates.{most_places};
 
 use crate::class_sizes::class_sizes;
 use crate::count_below::{count_below, sorted_highs};
@@ -23,7 +24,7 @@ use std::thread::Threads;
 
 // The row of a class by its first angle.
 fn class_row(first: Angle, size: u32, solved: &Solved, highs: &[u64]) -> ClassRow
-    requires short { HasOrbitWithin 128 first }
+    requires short { HasOrbitWithin most_places first }
     requires few { length highs.now < 2 ^ 32 }
     requires rising { IsNonDecreasingBy (λ h. h) highs.now }
     ensures { IsRowOf first size solved.now highs.now result }
@@ -57,7 +58,7 @@ fn class_rows(
     highs: &[u64],
 ) -> Result<Vec<ClassRow>, NoMemory>
     requires places { All (λ place. place < length angles.now) first.now }
-    requires short { All (HasOrbitWithin 128) angles.now }
+    requires short { All (HasOrbitWithin most_places) angles.now }
     requires sizes { length sizes.now ≡ length first.now }
     requires solved { length solved.now ≡ length first.now }
     requires few { length highs.now < 2 ^ 32 }
@@ -87,7 +88,7 @@ fn rows_of_classes(
     solutions: &Solutions,
 ) -> Result<Vec<ClassRow>, NoMemory>
     requires few { length angles.now < 2 ^ 32 }
-    requires short { All (HasOrbitWithin 128) angles.now }
+    requires short { All (HasOrbitWithin most_places) angles.now }
     requires classes { AreClasses angles.now solutions.now.classes.of.items solutions.now.classes.first.items }
     requires each { length solutions.now.solved.items ≡ length solutions.now.classes.first.items }
     ensures { IfOk result (λ rows. AreRowsOf angles.now solutions.now.classes.of.items

@@ -1,5 +1,6 @@
 -- The bounds of a vector, as they are defined, bound the growth rate: whatever computes them.
-use Rattle.std.proofs.Common.{◌≡◌, ◌<◌, ◌≤◌, ◌*◌, ◌^◌, ◌∙◌, inl, inr, ℕ, min, List, length, refl, sym, subst, arith, eq-eqb, lit≤}
+use Rattle.std.proofs.Common.{◌≡◌, ◌<◌, ◌≤◌, ◌*◌, ◌^◌, ◌∙◌, inl, inr, ℕ, min, List, length, refl, sym, subst, arith}
+use Rattle.std.proofs.Common.{eq-eqb, lit≤}
 use Rattle.std.specs.Prelude.{slice_index, map, ◌==◌}
 use Rattle.std.specs.List.{range_with_len}
 use Rattle.std.proofs.lemmas.Bool.{cases_lt}
@@ -10,7 +11,8 @@ use Rattle.std.proofs.Math.Nat.{div-mul-le_self, mul-le-mul_right}
 use Rattle.ce_rows.specs.Blocks.{IsRanking}
 use Rattle.ce_rows.specs.Rows.{ScaledRows, AreScaledRows, IsLowerBoundOf, IsUpperBoundOf}
 use Rattle.ce_cert.specs.Certificate.{IsLowVector, IsHighVector}
-use Rattle.ce_cert.specs.Quotients.{quotient_down, quotient_up, scaled_sum, vertices_of, least_quotient, low_of, high_of, greatest}
+use Rattle.ce_cert.specs.Quotients.{quotient_down, quotient_up, scaled_sum, vertices_of, least_quotient, low_of}
+use Rattle.ce_cert.specs.Quotients.{high_of, greatest}
 use Rattle.ce_cert.specs.Vectors.{IsVectorOf}
 use Rattle.ce_cert.proofs.BoundsOf.{Contains-map, Contains-filter, Contains-range}
 use Rattle.ce_cert.proofs.Cut.{two_bounds}

@@ -1,12 +1,14 @@
 -- A certificate holds, or it has a first flaw: all that is asked of it can be tested.
-use Rattle.std.proofs.Common.{◌≡◌, ◌≢◌, ◌<◌, ◌≤◌, ◌+◌, ◌*◌, ◌^◌, ◌⊎◌, inl, inr, ℕ, zero, suc, List, [], ◌∷◌, length, get_or, refl, sym, subst, arith}
+use Rattle.std.proofs.Common.{◌≡◌, ◌≢◌, ◌<◌, ◌≤◌, ◌*◌, ◌^◌, ◌⊎◌, inl, inr, ℕ, zero, suc, List, [], ◌∷◌, length}
+use Rattle.std.proofs.Common.{subst, arith}
 use Rattle.std.specs.Prelude.{All, Contains, slice_index}
 use Rattle.std.proofs.lemmas.Bool.{cases_lt}
 use Rattle.std.proofs.lemmas.List.Elements.{All-nil, All-cons, All-head, All-tail, Contains-append_right}
 use Rattle.ce_rows.specs.Blocks.{IsRanking}
 use Rattle.ce_rows.specs.Rows.{ScaledRows, successors_in}
 use Rattle.ce_rows.specs.declared.row.Row.{Row}
-use Rattle.ce_cert.specs.Certificate.{Evidence, HasLengths, HasRanking, HasEntries, IsCertificate, IsLowVector, IsHighVector, IsPositive}
+use Rattle.ce_cert.specs.Certificate.{Evidence, HasLengths, HasRanking, HasEntries, IsCertificate, IsLowVector}
+use Rattle.ce_cert.specs.Certificate.{IsHighVector, IsPositive}
 use Rattle.ce_cert.specs.Evidence.{IsFirstFlaw}
 use Rattle.ce_cert.specs.Quotients.{scaled_sum}
 use Rattle.ce_cert.specs.declared.certificate.Flaw.{Flaw}

@@ -6,6 +6,7 @@ ghost use Rattle.ce_cert.specs.Certificate.{IsCertificate, IsLowVector};
 ghost use Rattle.ce_cert.specs.PassesInside.{IsBestUpTo, IsGreatestUpTo, IsLeastUpTo};
 ghost use Rattle.ce_cert.specs.Quotients.{low_of, low_rank_of, high_of};
 ghost use Rattle.ce_cert.specs.Vectors.{IsVectorOf};
+ghost use Rattle.ce_rows.specs.Limits.{number_limit};
 
 use crate::Bounds;
 use crate::quotient::{CUT, greater_quotient, lesser_quotient};
@@ -20,7 +21,7 @@ fn quotients(rows: &Rows, ranks: &[u32], v: &[u64], least: &mut [u64]) -> u64
     ensures rows { AreScaledRows rows.now }
     ensures least { (rank : ℕ) → rank < length rows.now.list
         → IsLeastUpTo rows.now ranks.now v.now (length rows.now.list) rank (slice_index least.new rank) }
-    ensures cut { result ≤ 2 ^ 62 }
+    ensures cut { result ≤ number_limit }
     ensures greatest { IsGreatestUpTo rows.now ranks.now v.now (length rows.now.list) result }
 {
     let one = rows.scale().one();
@@ -71,7 +72,7 @@ pub fn bounds(rows: &Rows, ranks: &[u32], v: &[u64], scratch: &mut [u64]) -> Bou
     // The rank occurs, and the vector shows the low end; below the cut it shows the high end too.
     ensures occurs { Contains ranks.now result.low_rank }
     ensures shown { IsLowVector rows.now ranks.now result.low_rank v.now result.low }
-    ensures certificate { result.high < 2 ^ 62 → IsCertificate rows.now (record {
+    ensures certificate { result.high < number_limit → IsCertificate rows.now (record {
       ranks = ranks.now;
       low_rank = result.low_rank;
       low_vector = v.now;

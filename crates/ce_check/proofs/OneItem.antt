@@ -111,5 +111,6 @@ module _ (order exponent : ℕ) (left : List Fraction) (item : Item) where
   same_cause c d (inr (inr h)) (inr (inr k)) =
       h.cause ∙ ap cause_of (same_flaw exponent item h.flaw_is k.flaw_is h.flawed k.flawed) ∙ sym k.cause
 
-  pub one_cause : (c d : Cause) → IsItemCause order exponent left item c → IsItemCause order exponent left item d → c ≡ d
+  pub one_cause : (c d : Cause) → IsItemCause order exponent left item c
+      → IsItemCause order exponent left item d → c ≡ d
   one_cause c d h k = same_cause c d (cause_kind c h) (cause_kind d k)

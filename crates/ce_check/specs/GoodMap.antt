@@ -10,12 +10,13 @@ use Rattle.ce_orbit.specs.Orbit.{ForwardOrbit, IsForwardOrbit}
 use Rattle.ce_rows.specs.Growth.{Encloses}
 use Rattle.ce_thurston.specs.Indices.{rows_at}
 use Rattle.ce_thurston.specs.Pairs.{pair_walks}
+use Rattle.ce_orbit.specs.Iterates.{most_places}
 
 -- The orbit of an angle, which has at most 128 angles.
 pub record IsShortOrbitOf (angle : Fraction) (o : ForwardOrbit) : Type 0 where
   pub is_orbit : IsForwardOrbit o
   pub of_angle : o.angle ≡ angle
-  pub few : length o.places ≤ 128
+  pub few : length o.places ≤ most_places
 
 -- A fraction is an angle with such an orbit, and a certificate holds for its rows.
 pub record IsCertified (exponent : ℕ) (item : Item) : Type 0 where

@@ -47,7 +47,8 @@ single_is a e =
     }
 
 -- what is found has what all have
-pub found_is : (test p : Rule → Bool) (rules : List Rule) (a : Rule) → list_all p rules ≡ true → find test rules ≡ Some a
+pub found_is : (test p : Rule → Bool) (rules : List Rule) (a : Rule) → list_all p rules ≡ true
+    → find test rules ≡ Some a
     → p a ≡ true
 found_is test p [] a all e = cc
 found_is test p (x ∷ xs) a all e = go (test x) refl (found_is test p xs a (both _ _ all).1)

@@ -1,6 +1,7 @@
 -- What one event does to the enclosure: the bounds still enclose and only narrow, and what each
 -- actor saw is still true.
-use Rattle.std.proofs.Common.{◌≡◌, ◌≤◌, ◌<◌, ◌^◌, ◌∙◌, ◌⊎◌, inl, inr, ℕ, Bool, true, false, min, max, List, [], length, get_or, refl, sym, subst, arith}
+use Rattle.std.proofs.Common.{◌≡◌, ◌≤◌, ◌<◌, ◌^◌, ◌∙◌, ◌⊎◌, inl, inr, ℕ, Bool, true, false, min, max, List, []}
+use Rattle.std.proofs.Common.{length, get_or, refl, sym, subst, arith}
 use Rattle.std.specs.Prelude.{if◌then◌else◌, ◌==◌, slice_set}
 use Rattle.std.proofs.lemmas.Bool.{cases_lt, eqb-true}
 use Rattle.std.proofs.lemmas.List.{length-set, set_past}
@@ -8,7 +9,8 @@ use Rattle.std.proofs.lemmas.List.Elements.{All-set, All-get_or, All-weaker}
 use Rattle.ce_rows.specs.Blocks.{IsRanking}
 use Rattle.ce_rows.specs.Events.{Shared, actor_of, act_of, after_act, answer_of}
 use Rattle.ce_rows.specs.declared.act.Act.{Act}
-use Rattle.ce_rows.specs.declared.act.Act.TheVariants.{Loads, Relaxes, Shrinks, LoadsLow, LoadsHigh, Raises, Lowers, Stops}
+use Rattle.ce_rows.specs.declared.act.Act.TheVariants.{Loads, Relaxes, Shrinks, LoadsLow, LoadsHigh, Raises, Lowers}
+use Rattle.ce_rows.specs.declared.act.Act.TheVariants.{Stops}
 use Rattle.ce_rows.specs.Rows.{ScaledRows, AreScaledRows, IsLowerBoundOf, IsUpperBoundOf}
 use Rattle.ce_rows.specs.declared.event.Event.{Event}
 use Rattle.ce_rows.proofs.Blocks.{entry_at_most}

@@ -1,10 +1,11 @@
 -- A text is a script, or it has a first bad line.
-use Rattle.std.proofs.Common.{◌≡◌, ◌≢◌, ◌<◌, ◌≤◌, ◌+◌, ◌⊎◌, ◌∙◌, inl, inr, ℕ, zero, suc, List, [], ◌∷◌, ◌++◌, length, refl, sym, ap, subst, arith, append_assoc, length-append}
-use Rattle.std.specs.Prelude.{All}
+use Rattle.std.proofs.Common.{◌≡◌, ◌≢◌, ◌<◌, ◌≤◌, ◌⊎◌, ◌∙◌, inl, inr, ℕ, zero, suc, List, [], ◌∷◌, ◌++◌, length}
+use Rattle.std.proofs.Common.{refl, sym, ap, subst, arith, append_assoc, length-append}
 use Rattle.std.proofs.lemmas.Bool.{cases_lt}
 use Rattle.std.proofs.lemmas.List.Elements.{All-nil, All-cons}
 use Rattle.ce_rows.specs.declared.event.Event.{Event}
-use Rattle.ce_rows.specs.declared.event.Event.TheVariants.{Load, Relax, Shrink, Low, High, Raise, Lower, Shift, Ask, Halted, Stop}
+use Rattle.ce_rows.specs.declared.event.Event.TheVariants.{Load, Relax, Shrink, Low, High, Raise, Lower, Shift, Ask}
+use Rattle.ce_rows.specs.declared.event.Event.TheVariants.{Halted, Stop}
 use Rattle.ce_cert.proofs.FirstFlaw.{same_or_not}
 use Rattle.ce_core.specs.Machine.{actor_count}
 use Rattle.ce_core.specs.Script.{event_line, script_of, IsEventBelow, IsScriptOf, IsFirstBad}

@@ -6,6 +6,7 @@ ghost use Rattle.ce_core.specs.Machine.{actor_count};
 ghost use Rattle.ce_rows.specs.Actors.{actor_at_start};
 ghost use Rattle.ce_rows.specs.Events.{actor_of, act_of, HasEntryBelow};
 ghost use Rattle.ce_rows.specs.declared.act.Act.TheVariants.{Asks};
+ghost use Rattle.ce_rows.specs.Limits.{entry_limit};
 
 use crate::actor::Actor;
 use crate::shared::Shared;
@@ -158,7 +159,7 @@ impl<'a> Core<'a> {
         requires { i < length self.now.rows.list }
         ensures value { result ≡ slice_index self.now.machine.shared.entries i }
         ensures positive { 1 ≤ result }
-        ensures small { result ≤ 2 ^ 60 }
+        ensures small { result ≤ entry_limit }
     {
         self.shared.entries[i as usize]
     }

@@ -6,7 +6,7 @@ ghost use Rattle.ce_core.specs.Script.{IsEventBelow};
 use crate::{Core, Event, parse_script};
 use ce_cert::{Bounds, bounds};
 use ce_rows::Row::{One, Two};
-use ce_rows::{Interval, NoMemory, Rows, RowsMaker, Scale, is_ranking};
+use ce_rows::{Interval, NoMemory, QUARTER, Rows, Scale, is_ranking};
 use std::alloc::Global;
 use std::test::Fail;
 
@@ -16,11 +16,7 @@ const HALF: u64 = 1 << 57;
 fn quarter(alloc: Global, scale: Scale) -> Result<Rows, NoMemory>
     ensures { IfOk result (λ rows. length rows.list ≡ 3) }
 {
-    let mut maker = RowsMaker::new(alloc, 3)?;
-    maker.push(One(2));
-    maker.push(Two(0, 1));
-    maker.push(Two(1, 1));
-    Ok(maker.finish().with_scale(scale))
+    Ok(Rows::from_slice(alloc, &QUARTER)?.with_scale(scale))
 }
 
 // The machine whose initial enclosure is the bounds of its start.
@@ -169,11 +165,7 @@ fn rescaled_entries_keep_the_interval(rt: HostRuntime) -> Result<(), Fail> {
 
 #[test]
 fn equal_bounds_stop(rt: HostRuntime) -> Result<(), Fail> {
-    let mut maker = RowsMaker::new(rt.alloc(), 3)?;
-    maker.push(Two(0, 0));
-    maker.push(Two(0, 1));
-    maker.push(One(1));
-    let rows = maker.finish();
+    let rows = Rows::from_slice(rt.alloc(), &[Two(0, 0), Two(0, 1), One(1)])?;
     let ranks = [0, 1, 2];
     let mut core = machine(rt.alloc(), &rows, &ranks)?;
     let events = events_of(rt.alloc(), &core, "halted 1\nstop 3\nhalted 1\n")?;

@@ -8,6 +8,7 @@ ghost use Rattle.ce_words.specs.Seats.{board_run};
 ghost use Rattle.ce_words.specs.Views.{view, rows_of, kept, seen_low, seen_high};
 ghost use Rattle.ce_crew.specs.Gains.{Gains, IsAtWork, IsRunStart, IsGraphOf};
 ghost use Rattle.ce_crew.specs.Turn.{relaxing_acts, entries_between};
+ghost use Rattle.ce_rows.specs.Limits.{entry_limit};
 
 use crate::loading::{load_images, load_one};
 use ce_rows::Rows;
@@ -20,7 +21,7 @@ fn store_relaxed(board: &Board, seat: &mut Seat, copy: &mut [u64], i: u32, value
     requires entry { i < length (board_run board.now).rows }
     requires own { in_part i (view seat.old).place.part ≡ 1 }
     requires some { 1 ≤ value }
-    requires most { value ≤ 2 ^ 60 }
+    requires most { value ≤ entry_limit }
     requires value { let run = board_run board.now in
         value ≡ carried (rows_of run) run.ranks (kept run (view seat.old).place.log) (Relaxes i) }
     ensures work { IsAtWork board.now seat.new copy.new }

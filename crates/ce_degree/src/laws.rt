@@ -8,11 +8,13 @@ ghost use Rattle.ce_orbit.specs.Orbit.{ForwardOrbit, IsForwardOrbit};
 ghost use Rattle.ce_rows.specs.Rows.{AreRows};
 ghost use Rattle.ce_thurston.specs.Indices.{rows_of_orbit};
 ghost use Rattle.ce_thurston.specs.Pairs.{pair_walks};
-ghost use Rattle.ce_thurston.specs.Portrait.{pairs_on, walks_on, AreDifferent, IsPairOn, HasPairsForImagesOn, IsPortraitOrbit};
+ghost use Rattle.ce_thurston.specs.Portrait.{pairs_on, walks_on, AreDifferent, IsPairOn, HasPairsForImagesOn};
+ghost use Rattle.ce_thurston.specs.Portrait.{IsPortraitOrbit};
 ghost use Rattle.ce_thurston.specs.PortraitRows.{rows_on};
 ghost use Rattle.ce_degree.specs.Degree.{is_apart, IsDegree};
 ghost use Rattle.ce_degree.specs.DegreeOrbit.{portrait_of, OrbitOfDegree, IsOrbitOfDegree};
 ghost use Rattle.ce_degree.specs.DegreeOrbit.{HasOrbitAbove, HasOrbitWithin};
+ghost use Rattle.ce_orbit.specs.Iterates.{most_places};
 
 /// Each image of a pair of an orbit is a pair of it.
 pub fn degree_images_are_pairs()
@@ -22,7 +24,8 @@ pub fn degree_images_are_pairs()
 /// The list of the pairs of an orbit has its pairs alone, each of them in one order or the other,
 /// and none twice.
 pub fn degree_pairs_are_listed()
-    ensures pairs { (o : OrbitOfDegree) → IsOrbitOfDegree o → All (IsPairOn (portrait_of o)) (pairs_on (portrait_of o)) }
+    ensures pairs { (o : OrbitOfDegree) → IsOrbitOfDegree o
+        → All (IsPairOn (portrait_of o)) (pairs_on (portrait_of o)) }
     ensures listed { (o : OrbitOfDegree) (x y : ℕ) → IsOrbitOfDegree o → IsPairOn (portrait_of o) (x, y)
         → Contains (pairs_on (portrait_of o)) (x, y) ⊎ Contains (pairs_on (portrait_of o)) (y, x) }
     ensures once { (o : OrbitOfDegree) → IsOrbitOfDegree o → AllPairs AreDifferent (pairs_on (portrait_of o)) }
@@ -30,7 +33,8 @@ pub fn degree_pairs_are_listed()
 
 /// The rows of an orbit of at most 128 angles are rows in range.
 pub fn degree_rows_are_in_range()
-    ensures { (o : OrbitOfDegree) → IsOrbitOfDegree o → length o.places ≤ 128 → AreRows (rows_on (portrait_of o)) }
+    ensures { (o : OrbitOfDegree) → IsOrbitOfDegree o → length o.places ≤ most_places
+        → AreRows (rows_on (portrait_of o)) }
 {}
 
 /// An angle has an orbit under multiplication by a degree, with at most as many angles as its

@@ -1,9 +1,11 @@
 -- The bits that repeated squaring finds are logarithms, rounded down and up.
-use Rattle.std.proofs.Common.{◌≡◌, ◌≢◌, ◌<◌, ◌≤◌, ◌+◌, ◌-◌, ◌*◌, ◌^◌, ◌==◌, ◌∙◌, ℕ, zero, suc, Bool, true, false, refl, sym, ap, subst, arith}
+use Rattle.std.proofs.Common.{◌≡◌, ◌≢◌, ◌<◌, ◌≤◌, ◌+◌, ◌-◌, ◌*◌, ◌^◌, ◌==◌, ◌∙◌, ℕ, zero, suc, Bool, true, false}
+use Rattle.std.proofs.Common.{refl, sym, ap, subst, arith}
 use Rattle.std.proofs.lemmas.Bool.Decides.{nat_tests}
 use Rattle.std.proofs.lemmas.Bool.{eqb-true}
 use Rattle.std.proofs.lemmas.Nat.{pow-add, pow_pos}
-use Rattle.std.proofs.Math.Nat.{mul-le-mul, lt_of_mul-lt-mul_left, mul-le-mul_right, le_of_mul-le-mul_left, pow-suc, mul-one, one-mul, pow-zero}
+use Rattle.std.proofs.Math.Nat.{mul-le-mul, lt_of_mul-lt-mul_left, mul-le-mul_right, le_of_mul-le-mul_left, pow-suc}
+use Rattle.std.proofs.Math.Nat.{mul-one, one-mul, pow-zero}
 use Rattle.ce_log2.specs.Logarithm.{IsAboveLogarithm, IsBelowLogarithm}
 use Rattle.ce_log2.specs.Squaring.{bits_above_of, bits_below_of, rounded_up, steps_down, steps_up}
 use Rattle.ce_log2.specs.declared.squared.Squared.{Squared}

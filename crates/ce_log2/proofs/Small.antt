@@ -7,10 +7,6 @@ use Rattle.ce_log2.proofs.Close.{IsCloseBelow}
 use Rattle.ce_log2.proofs.CloseAbove.{IsCloseAbove}
 use Rattle.ce_log2.proofs.Logarithms.{IsScaled, close-below, close-above}
 
-pub record IsSmall (s : Squared) : Type 0 where
-  pub bits : s.bits < 2 ^ 31
-  pub rest : s.rest ≤ 2 ^ 63
-
 few_bits : (k bits : ℕ) → k ≤ 16 → bits < 2 ^ k → bits < 2 ^ 31
 few_bits k bits few h = let more = pow-le-pow_right {n = 2} (omega arith) {i = k} {j = 16} few in omega (arith, more)
 

@@ -1,6 +1,7 @@
 -- How digits are read from the front of a text.
-use Rattle.std.specs.Prelude.{ℕ, ◌+◌, ◌-◌, ◌*◌, ◌^◌, ◌==◌, Bool, true, not, List, [], ◌∷◌, Option, None, Some, nat_lt}
+use Rattle.std.specs.Prelude.{ℕ, ◌+◌, ◌-◌, ◌*◌, ◌==◌, Bool, true, not, List, [], ◌∷◌, Option, None, Some, nat_lt}
 use Rattle.std.specs.Prelude.{if◌then◌else◌}
+use Rattle.ce_rows.specs.Limits.{number_limit}
 
 -- the value of a digit, 0 to 9 or a to f, and 16 of any other byte
 abbrev pub digit_in : ℕ → ℕ
@@ -24,7 +25,7 @@ is_plain base (c ∷ cs) = not (nat_lt (digit_in c) base)
 
 -- what is read, if it is in range
 abbrev pub in_range : ℕ × List ℕ → Option (ℕ × List ℕ)
-in_range r = if nat_lt r.0 (2 ^ 62) then Some r else None
+in_range r = if nat_lt r.0 number_limit then Some r else None
 
 -- the number at the front of a text, if there is one, and what is left
 unfoldable pub number_front : ℕ → List ℕ → Option (ℕ × List ℕ)

@@ -1,10 +1,10 @@
 -- The best interval of items: there is one, it is that of the kept ones, and it moves with the items.
-use Rattle.std.proofs.Common.{◌≡◌, ◌≤◌, ◌⊎◌, ℕ, List, [], ◌∷◌, ◌++◌, refl, sym, ap, subst, ◌∙◌, arith, inl, inr}
+use Rattle.std.proofs.Common.{◌≡◌, ◌≤◌, ◌⊎◌, ℕ, List, refl, sym, subst, arith, inl, inr}
 use Rattle.std.specs.Prelude.{◌↔◌}
-use Rattle.std.specs.List.{All, Contains}
-use Rattle.std.proofs.lemmas.List.Elements.{All-nil, All-cons, All-head, All-tail, All-contains, Contains-append_right}
+use Rattle.std.specs.List.{Contains}
+use Rattle.std.proofs.lemmas.List.Elements.{All-contains}
 use Rattle.ce_map.specs.Grammar.{Item}
-use Rattle.ce_merge.specs.Best.{HasGreatestLow, HasLeastHigh, HasBoth, IsFirst, AreKept, IsBest, HaveSame}
+use Rattle.ce_merge.specs.Best.{HasGreatestLow, HasLeastHigh, HasBoth, AreKept, IsBest, HaveSame}
 use Rattle.ce_merge.proofs.KeptLaws.{all_by, first_in, alone_low, alone_high, low_of, high_of}
 use Rattle.ce_merge.proofs.KeptLaws.{IsOneKept, AreTwoKept, kept_kind, low_i, high_j}
 

@@ -1,10 +1,9 @@
 -- What is kept of the items of one angle.
-use Rattle.std.proofs.Common.{◌≡◌, ◌≤◌, ◌⊎◌, ℕ, List, [], ◌∷◌, ◌++◌, refl, sym, ap, subst, ◌∙◌, arith, inl, inr}
-use Rattle.std.specs.Prelude.{◌↔◌}
+use Rattle.std.proofs.Common.{◌≡◌, ◌≤◌, ◌⊎◌, List, [], ◌∷◌, ◌++◌, refl, sym, ap, subst, ◌∙◌, arith, inl, inr}
 use Rattle.std.specs.List.{All, Contains}
 use Rattle.std.proofs.lemmas.List.Elements.{All-nil, All-cons, All-head, All-tail, All-contains, Contains-append_right}
 use Rattle.ce_map.specs.Grammar.{Item}
-use Rattle.ce_merge.specs.Best.{HasGreatestLow, HasLeastHigh, HasBoth, IsFirst, AreKept, IsBest, HaveSame}
+use Rattle.ce_merge.specs.Best.{HasGreatestLow, HasLeastHigh, HasBoth, IsFirst, AreKept}
 
 pub all_by : {X : Type 0} (P Q : X → Type 0) (xs : List X) → ((x : X) → P x → Q x) → All P xs → All Q xs
 all_by P Q xs f all = λ k d less. f _ (all k d less)

@@ -1,10 +1,7 @@
 -- What can be found out of a text: whether a part begins there, and what is wrong with an item.
-use Rattle.std.proofs.Common.{◌≡◌, ◌≢◌, ◌<◌, ◌≤◌, ◌+◌, ◌*◌, ◌⊎◌, ◌∙◌, inl, inr, ℕ, zero, suc, List, [], ◌∷◌, ◌++◌}
-use Rattle.std.proofs.Common.{length}
-use Rattle.std.proofs.Common.{Option, Some, None, refl, sym, ap, subst, arith, length-append}
-use Rattle.std.specs.List.{All, flat_map}
-use Rattle.std.proofs.lemmas.List.{append-nil}
-use Rattle.std.proofs.lemmas.List.Elements.{All-nil, All-push}
+use Rattle.std.proofs.Common.{◌≡◌, ◌*◌, ◌⊎◌, ◌∙◌, inl, inr, ℕ, List, ◌++◌}
+use Rattle.std.proofs.Common.{Option, Some, None, refl, sym, ap, arith}
+use Rattle.std.specs.List.{All}
 use Rattle.std.proofs.lemmas.Option.{none-some}
 use Rattle.ce_angle.specs.Farey.{IsAngleUpTo}
 use Rattle.ce_angle.specs.Order.{IsBelow}
@@ -16,23 +13,14 @@ use Rattle.ce_check.specs.Flaws.{HasFlaw}
 use Rattle.ce_check.specs.GoodMap.{IsCertified}
 use Rattle.ce_check.proofs.CheckLaws.{short_orbit}
 use Rattle.ce_check.proofs.SomeVerdict.{few_order, up_to_or_not}
-use Rattle.ce_map.specs.Digits.{IsNumber}
-use Rattle.ce_map.specs.Fits.{HasEnd, HasItem, IsUnfit}
-use Rattle.ce_map.specs.Grammar.{Header, Item, end_line, item_text}
+use Rattle.ce_map.specs.Grammar.{Header, Item}
 use Rattle.ce_map.specs.PartGrammar.{IsPartHeader, LacksPart, part_line}
 use Rattle.ce_map.specs.PartsInside.{part_front}
-use Rattle.ce_map.proofs.NextPart.{next_part}
 use Rattle.ce_map.proofs.PartLaws.{part_is_at, part_read}
-use Rattle.ce_map.proofs.WalkLaws.{item_long}
 use Rattle.ce_thurston.specs.Indices.{rows_at}
-use Rattle.ce_merge.specs.Flaws.{AreGoodBefore, AreGoodSoFar, HasFlawedItem, IsItemCause, MayFollow, line_in, lines_of}
-use Rattle.ce_merge.specs.Merges.{HasFirstFlaw, HasGoodParts}
-use Rattle.ce_merge.specs.Parts.{IsGoodPart, whole_part}
+use Rattle.ce_merge.specs.Flaws.{IsItemCause, MayFollow}
 use Rattle.ce_merge.specs.declared.merged.MergeCause.{MergeCause}
 use Rattle.ce_merge.specs.declared.merged.MergeCause.TheVariants as cause
-use Rattle.ce_merge.proofs.PartTexts.{more_parts, more_texts}
-use Rattle.ce_merge.proofs.PartsFollow.{no_part, none_good}
-use Rattle.ce_merge.proofs.PartsRead.{good_more, item_flaw}
 
 -- A header of a part stands at the front of a text, or none does.
 pub record HasPart (text : List ℕ) : Type 0 where

@@ -1,30 +1,18 @@
 -- Bytes are good parts, or have a first flaw.
-use Rattle.std.proofs.Common.{◌≡◌, ◌≢◌, ◌<◌, ◌≤◌, ◌+◌, ◌*◌, ◌⊎◌, ◌∙◌, inl, inr, ℕ, zero, suc, List, [], ◌∷◌, ◌++◌}
+use Rattle.std.proofs.Common.{◌≡◌, ◌≢◌, ◌<◌, ◌≤◌, ◌+◌, ◌⊎◌, ◌∙◌, inl, inr, ℕ, zero, suc, List, [], ◌∷◌, ◌++◌}
 use Rattle.std.proofs.Common.{length}
-use Rattle.std.proofs.Common.{Option, Some, None, refl, sym, ap, subst, arith, length-append}
-use Rattle.std.specs.List.{All, flat_map}
+use Rattle.std.proofs.Common.{refl, ap, subst, arith, length-append}
+use Rattle.std.specs.List.{flat_map}
 use Rattle.std.proofs.lemmas.List.{append-nil}
 use Rattle.std.proofs.lemmas.List.Elements.{All-nil, All-push}
-use Rattle.std.proofs.lemmas.Option.{none-some}
-use Rattle.ce_angle.specs.Farey.{IsAngleUpTo}
-use Rattle.ce_angle.specs.Order.{IsBelow}
-use Rattle.ce_angle.proofs.FareyList.{all_angles}
-use Rattle.ce_cert.specs.declared.certificate.Flaw.{Flaw}
-use Rattle.ce_cert.specs.declared.certificate.Flaw.TheVariants as flaw
-use Rattle.ce_cert.proofs.FirstFlaw.{Test, all_or_not, below_or_not, both, holds_or_flaw, same_or_not, test_by}
-use Rattle.ce_check.specs.Flaws.{HasFlaw}
+use Rattle.ce_cert.proofs.FirstFlaw.{Test, same_or_not}
 use Rattle.ce_check.specs.GoodMap.{IsCertified}
-use Rattle.ce_check.proofs.CheckLaws.{short_orbit}
-use Rattle.ce_check.proofs.SomeVerdict.{few_order, up_to_or_not}
 use Rattle.ce_map.specs.Digits.{IsNumber}
 use Rattle.ce_map.specs.Fits.{HasEnd, HasItem, IsUnfit}
 use Rattle.ce_map.specs.Grammar.{Header, Item, end_line, item_text}
-use Rattle.ce_map.specs.PartGrammar.{IsPartHeader, LacksPart, part_line}
-use Rattle.ce_map.specs.PartsInside.{part_front}
+use Rattle.ce_map.specs.PartGrammar.{IsPartHeader, part_line}
 use Rattle.ce_map.proofs.NextPart.{next_part}
-use Rattle.ce_map.proofs.PartLaws.{part_is_at, part_read}
 use Rattle.ce_map.proofs.WalkLaws.{item_long}
-use Rattle.ce_thurston.specs.Indices.{rows_at}
 use Rattle.ce_merge.specs.Flaws.{AreGoodBefore, AreGoodSoFar, HasFlawedItem, IsItemCause, MayFollow, line_in, lines_of}
 use Rattle.ce_merge.specs.Merges.{HasFirstFlaw, HasGoodParts}
 use Rattle.ce_merge.specs.Parts.{IsGoodPart, whole_part}

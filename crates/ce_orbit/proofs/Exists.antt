@@ -11,7 +11,7 @@ use Rattle.std.proofs.lemmas.Map.Views.{Contains-from_any}
 use Rattle.ce_angle.specs.Fraction.{Fraction, IsAngle}
 use Rattle.ce_orbit.specs.Iterates.{iterate, AreDistinctIterates, HasOrbitOf}
 use Rattle.ce_orbit.specs.Orbit.{HasOrbitWithin, HasOrbitAbove, doubled}
-use Rattle.ce_orbit.proofs.Next.{doubling_orbit, numerator-below}
+use Rattle.ce_orbit.proofs.Next.{numerator-below}
 
 -- a number among the first values of a sequence, or at none of them
 record IsFound (f : ℕ → ℕ) (x n : ℕ) : Type 0 where
@@ -144,7 +144,7 @@ of_doubling : (angle : Fraction) (n : ℕ) → IsAngle angle → HasOrbitOf (dou
 of_doubling angle n h short = record {
   orbit = record { angle = angle; places = short.places; preperiod = short.preperiod };
   of_angle = refl;
-  is_orbit = doubling_orbit angle short.places short.preperiod h short.is_orbit;
+  is_orbit = record { angle = h; orbit = short.is_orbit };
   few = short.few;
 }
 

@@ -32,7 +32,7 @@ same_key a b c d xs ys first second third =
 
 -- preperiod and period are all places
 pub whole_orbit : (o : ForwardOrbit) → IsForwardOrbit o → o.preperiod + period_of o ≡ length o.places
-whole_orbit o h = let back = h.comes_back in omega arith
+whole_orbit o h = let back = h.orbit.comes_back in omega arith
 
 pub length-symbols : (o : ForwardOrbit) → length (symbols_of o) ≡ length o.places
 length-symbols o = length-map o.places (symbol_of o.angle)
@@ -73,7 +73,7 @@ module _ (o r : ForwardOrbit) (k l : KneadKey) (of_o : IsForwardOrbit o) (of_r :
 pub first_symbols : (o : ForwardOrbit) (k : ℕ) → IsForwardOrbit o → k < length o.places
     → get_or (symbols_of o) k Zero ≡ symbol_at o.angle k
 first_symbols o k h within =
-    get_or-map (symbol_of o.angle) o.places k 0 Zero within ∙ ap (symbol_of o.angle) (h.numerators k within)
+    get_or-map (symbol_of o.angle) o.places k 0 Zero within ∙ ap (symbol_of o.angle) (h.orbit.numerators k within)
 
 -- From the preperiod on, the numerators go round.
 goes_round : (o : ForwardOrbit) (k : ℕ) → IsForwardOrbit o
@@ -82,7 +82,7 @@ goes_round o zero h =
     let whole = whole_orbit o h in
     let all : o.preperiod + zero + period_of o ≡ length o.places = omega arith in
     let first : o.preperiod ≡ o.preperiod + zero = omega arith in
-    ap (λ n. numerator_at o.angle n) all ∙ h.repeats ∙ ap (λ n. numerator_at o.angle n) first
+    ap (λ n. numerator_at o.angle n) all ∙ h.orbit.repeats ∙ ap (λ n. numerator_at o.angle n) first
 goes_round o (suc k) h =
     let more : o.preperiod + suc k + period_of o ≡ suc (o.preperiod + k + period_of o) = omega arith in
     let here : suc (o.preperiod + k) ≡ o.preperiod + suc k = omega arith in
@@ -130,7 +130,7 @@ module _ (o r : ForwardOrbit) (left : IsForwardOrbit o) (right : IsForwardOrbit 
   one_sequence zero k below = absurd (omega arith)
   one_sequence (suc n) k below = elim (cases_lt k (length o.places)) [
     | inl within ↦ first_same k within
-    | inr late ↦ let back = left.comes_back in
+    | inr late ↦ let back = left.orbit.comes_back in
         later_same k late (one_sequence n (k - period_of o) (omega arith))
   ]
 

@@ -18,6 +18,10 @@ pub record IsOrbitOf (f : ℕ → ℕ) (x : ℕ) (places : List ℕ) (preperiod 
   pub comes_back : preperiod < length places
   pub repeats : iterate f x (length places) ≡ iterate f x preperiod
 
+-- the most places that orbits may have here
+abbrev pub most_places : ℕ
+most_places = 128
+
 -- The numbers come back to one of them within so many.
 pub record HasOrbitOf (f : ℕ → ℕ) (x count : ℕ) : Type 0 where
   pub places : List ℕ

@@ -8,6 +8,7 @@ use Rattle.ce_orbit.specs.Symbols.{symbol_of}
 use Rattle.ce_orbit.specs.declared.symbol.Symbol.{Symbol}
 use Rattle.ce_orbit.specs.declared.symbol.Symbol.TheVariants.{Zero}
 use Rattle.ce_orbit.specs.declared.key.KneadKey.{KneadKey}
+use Rattle.ce_orbit.specs.Iterates.{most_places}
 
 -- the kneading sequence of an angle: its symbol after so many doublings
 abbrev pub symbol_at : Fraction → ℕ → Symbol
@@ -28,10 +29,10 @@ kneading_of o = record { preperiod = o.preperiod; period = period_of o; symbols 
 
 -- A key holds the kneading sequence of an orbit of at most 128 angles, and Zero after its symbols.
 pub record IsKeyOf (o : ForwardOrbit) (key : KneadKey) : Type 0 where
-  pub few : length o.places ≤ 128
+  pub few : length o.places ≤ most_places
   pub preperiod : key.preperiod ≡ o.preperiod
   pub period : key.period ≡ period_of o
-  pub symbols : key.symbols ≡ symbols_of o ++ replicate (128 - length o.places) Zero
+  pub symbols : key.symbols ≡ symbols_of o ++ replicate (most_places - length o.places) Zero
 
 -- the kneading sequence that a key holds
 abbrev pub kneading_in : KneadKey → Kneading

@@ -1,5 +1,5 @@
 -- Texts that go out in pieces.
-use Rattle.std.proofs.Common.{◌≡◌, ◌∙◌, ℕ, List, [], ◌++◌, Option, Some, None, refl, sym, ap, subst, append_assoc}
+use Rattle.std.proofs.Common.{◌∙◌, ℕ, List, [], ◌++◌, Option, Some, None, refl, sym, ap, subst, append_assoc}
 use Rattle.std.proofs.lemmas.List.{append-nil}
 use Rattle.ce_port.specs.Sink.{GrewBy}
 use Rattle.ce_port.specs.WriteAll.{GrewByPrefix}

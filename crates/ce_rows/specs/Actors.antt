@@ -3,7 +3,8 @@
 use Rattle.std.specs.Prelude.{ℕ, ◌≤◌, List, fold, slice_set}
 use Rattle.ce_rows.specs.Events.{Shared}
 use Rattle.ce_rows.specs.declared.act.Act.{Act}
-use Rattle.ce_rows.specs.declared.act.Act.TheVariants.{Loads, Relaxes, Shrinks, LoadsLow, LoadsHigh, Raises, Lowers, LoadsShift}
+use Rattle.ce_rows.specs.declared.act.Act.TheVariants.{Loads, Relaxes, Shrinks, LoadsLow, LoadsHigh, Raises, Lowers}
+use Rattle.ce_rows.specs.declared.act.Act.TheVariants.{LoadsShift}
 use Rattle.ce_rows.specs.declared.act.LogEntry.{LogEntry}
 
 pub record ActorState : Type 0 where

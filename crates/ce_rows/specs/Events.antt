@@ -3,9 +3,11 @@
 -- choice.
 use Rattle.std.specs.Prelude.{ℕ, ⊤, ◌<◌, max, min, List, slice_index, slice_set}
 use Rattle.ce_rows.specs.declared.act.Act.{Act}
-use Rattle.ce_rows.specs.declared.act.Act.TheVariants.{Loads, Relaxes, Shrinks, LoadsLow, LoadsHigh, Raises, Lowers, LoadsShift, Asks, LoadsStop, Stops}
+use Rattle.ce_rows.specs.declared.act.Act.TheVariants.{Loads, Relaxes, Shrinks, LoadsLow, LoadsHigh, Raises, Lowers}
+use Rattle.ce_rows.specs.declared.act.Act.TheVariants.{LoadsShift, Asks, LoadsStop, Stops}
 use Rattle.ce_rows.specs.declared.event.Event.{Event}
-use Rattle.ce_rows.specs.declared.event.Event.TheVariants.{Load, Relax, Shrink, Low, High, Raise, Lower, Shift, Ask, Halted, Stop}
+use Rattle.ce_rows.specs.declared.event.Event.TheVariants.{Load, Relax, Shrink, Low, High, Raise, Lower, Shift, Ask}
+use Rattle.ce_rows.specs.declared.event.Event.TheVariants.{Halted, Stop}
 
 -- an event is an act of an actor
 abbrev pub actor_of : Event → ℕ

@@ -4,7 +4,8 @@
 use Rattle.std.specs.Prelude.{ℕ, ◌+◌, max, min, List, slice_index, drop}
 use Rattle.ce_rows.specs.Events.{Shared}
 use Rattle.ce_rows.specs.declared.act.Act.{Act}
-use Rattle.ce_rows.specs.declared.act.Act.TheVariants.{Loads, Relaxes, Shrinks, LoadsLow, LoadsHigh, Raises, Lowers, LoadsShift, Asks, LoadsStop, Stops}
+use Rattle.ce_rows.specs.declared.act.Act.TheVariants.{Loads, Relaxes, Shrinks, LoadsLow, LoadsHigh, Raises, Lowers}
+use Rattle.ce_rows.specs.declared.act.Act.TheVariants.{LoadsShift, Asks, LoadsStop, Stops}
 
 -- the shared state that words hold
 abbrev pub shared_in : List ℕ → Shared

@@ -1,5 +1,6 @@
 -- Actors after their runs.
-use Rattle.std.proofs.Common.{◌≡◌, ℕ, zero, suc, ◌+◌, ◌*◌, ◌<◌, List, [], ◌∷◌, length, map, slice_index_or, All, refl, sym, ap, ◌∙◌, subst, length-append, arith}
+use Rattle.std.proofs.Common.{◌≡◌, ℕ, zero, suc, ◌+◌, ◌*◌, ◌<◌, List, [], ◌∷◌, length, map, slice_index_or, All, refl}
+use Rattle.std.proofs.Common.{sym, ap, ◌∙◌, subst, length-append, arith}
 use mathlib.Core.Option.{some, some-injective}
 use lib.ListN.{get_elem?}
 use Rattle.ce_solve.specs.ChaoticRun.{part_of}
@@ -10,7 +11,8 @@ use Rattle.ce_words.specs.declared.view.Part.{Part}
 use Rattle.ce_words.specs.declared.view.Place.{Place}
 use Rattle.ce_live.specs.Sessions.{SessionState}
 use Rattle.ce_crew.specs.declared.worker.Worker.{Worker}
-use Rattle.ce_solve.specs.Actors.{HasRun, HasRunWorker, HasRunSession, IsHiredWorker, IsOver, IsOverWorker, IsOverSession, HasTurns, IsTold, IsToldSession, worker_places, readings_of}
+use Rattle.ce_solve.specs.Actors.{HasRun, HasRunWorker, HasRunSession, IsHiredWorker, IsOver, IsOverWorker}
+use Rattle.ce_solve.specs.Actors.{IsOverSession, HasTurns, IsTold, IsToldSession, worker_places, readings_of}
 use Rattle.ce_solve.specs.ActorsInside.{ArePartsFrom, HaveRun, IsHired, IsSeatedSession, AreSessionsFrom, sessions_in}
 use Rattle.ce_solve.specs.SolvedRows.{AreOfSession, AreReadingsFrom}
 use Rattle.ce_live.specs.Sessions.{AreNumbered}

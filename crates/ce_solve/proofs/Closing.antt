@@ -1,5 +1,6 @@
 -- The closing of a run: the logs in the joined seats are a run to the bounds.
-use Rattle.std.proofs.Common.{◌≡◌, ℕ, ◌+◌, ◌*◌, ◌<◌, ◌≤◌, inl, inr, Bool, true, false, cond, eqb, List, [], ◌∷◌, ◌++◌, length, slice_index, All, refl, sym, ap, ◌∙◌, subst, arith}
+use Rattle.std.proofs.Common.{◌≡◌, ℕ, ◌+◌, ◌*◌, ◌<◌, ◌≤◌, inl, inr, Bool, true, false, cond, eqb, List, [], ◌∷◌, ◌++◌}
+use Rattle.std.proofs.Common.{length, slice_index, All, refl, sym, ap, ◌∙◌, subst, arith}
 use Rattle.std.proofs.lemmas.Bool.{false≢true}
 use mathlib.Core.Option.{some}
 use lib.ListN.{get_elem?}
@@ -8,7 +9,8 @@ use Rattle.ce_rows.specs.declared.act.Act.{Act}
 use Rattle.ce_rows.specs.declared.act.LogEntry.{LogEntry}
 use Rattle.ce_rows.specs.declared.act.Act.TheVariants.{LoadsLow, LoadsHigh, LoadsStop, Stops}
 use Rattle.ce_words.specs.Invariant.{IsGreatest, IsLeast}
-use Rattle.ce_words.specs.Logs.{is_raise, is_lower, is_ask, is_stop, times, halts, halt, total, by_place, Each, in_part, stores, had, IsPossibleLog}
+use Rattle.ce_words.specs.Logs.{is_raise, is_lower, is_ask, is_stop, times, halts, halt, total, by_place, Each}
+use Rattle.ce_words.specs.Logs.{in_part, stores, had, IsPossibleLog}
 use Rattle.ce_words.specs.Steps.{IsSettled, WasSet}
 use Rattle.ce_words.specs.Views.{view, kept, logged, part}
 use Rattle.ce_words.specs.declared.view.Part.{Part}
@@ -28,7 +30,8 @@ use Rattle.ce_crew.specs.Workers.{HasLog}
 use Rattle.ce_crew.specs.declared.worker.Worker.{Worker}
 use Rattle.ce_crew.proofs.BestVectors.{times_none, times-append}
 use Rattle.ce_crew.proofs.Grown.{actor_after-append}
-use Rattle.ce_solve.specs.Actors.{IsOver, IsOverWorker, IsTold, IsFirstSeat, HasTurns, places_of, worker_places, joined_all}
+use Rattle.ce_solve.specs.Actors.{IsOver, IsOverWorker, IsTold, IsFirstSeat, HasTurns, places_of, worker_places}
+use Rattle.ce_solve.specs.Actors.{joined_all}
 use Rattle.ce_solve.specs.ChaoticRun.{part_of, IsLogOf, IsCertifiedLow, IsCertifiedHigh, IsStopFound, IsStopSet, IsRun}
 use Rattle.ce_solve.specs.declared.crew.Actor.{Actor}
 use Rattle.ce_solve.specs.declared.crew.Actor.TheVariants.{Worker as AWorker, Session as ASession}

@@ -1,5 +1,6 @@
 -- The best ends that were joined are the closing bounds, and a certificate.
-use Rattle.std.proofs.Common.{◌≡◌, ℕ, zero, suc, ◌+◌, ◌*◌, ◌^◌, ◌<◌, ◌≤◌, ◌⊎◌, inl, inr, Bool, cond, eqb, eq-eqb, List, [], ◌∷◌, ◌++◌, refl, sym, ap, subst, arith}
+use Rattle.std.proofs.Common.{◌≡◌, ℕ, zero, suc, ◌+◌, ◌*◌, ◌^◌, ◌<◌, ◌≤◌, ◌⊎◌, inl, inr, Bool, cond, eqb, eq-eqb}
+use Rattle.std.proofs.Common.{List, [], ◌∷◌, ◌++◌, refl, sym, ap, subst, arith}
 use Rattle.ce_cert.specs.Certificate.{Evidence, IsCertificate, IsPositive}
 use Rattle.ce_cert.specs.Vectors.{IsVectorOf}
 use Rattle.std.proofs.lemmas.List.Elements.{All-weaker}

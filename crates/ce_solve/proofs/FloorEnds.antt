@@ -1,5 +1,6 @@
 -- The bounds that the vectors of power iteration give lie from S to 2S, whatever the ranking.
-use Rattle.std.proofs.Common.{◌≡◌, ◌<◌, ◌≤◌, ◌+◌, ◌*◌, ◌^◌, ◌∙◌, ◌/◌, inl, inr, true, ℕ, zero, suc, List, [], ◌∷◌, length, get_or, refl, sym, arith, eq-eqb}
+use Rattle.std.proofs.Common.{◌≡◌, ◌<◌, ◌≤◌, ◌+◌, ◌*◌, ◌^◌, ◌∙◌, ◌/◌, inl, inr, true, ℕ, zero, suc, List, [], ◌∷◌}
+use Rattle.std.proofs.Common.{length, get_or, refl, sym, arith, eq-eqb}
 use Rattle.std.specs.Prelude.{All, Contains, slice_index, sum_by, map, ◌==◌}
 use Rattle.std.specs.Int.{div_ceil}
 use Rattle.std.specs.List.{range_with_len}
@@ -7,7 +8,8 @@ use Rattle.std.proofs.lemmas.List.{length-map, get_or_default}
 use Rattle.std.proofs.lemmas.Bool.{cases_lt, eqb-true}
 use Rattle.std.proofs.lemmas.Grind.{div_ceil_times}
 use Rattle.std.proofs.lemmas.Nat.{le-div}
-use Rattle.std.proofs.lemmas.List.Elements.{All-nil, All-cons, All-head, All-tail, All-map, All-filter, All-weaker, All-get_or, All-contains, Contains-append_right}
+use Rattle.std.proofs.lemmas.List.Elements.{All-nil, All-cons, All-head, All-tail, All-map, All-filter, All-weaker}
+use Rattle.std.proofs.lemmas.List.Elements.{All-get_or, All-contains, Contains-append_right}
 use Rattle.std.proofs.lemmas.List.Sums.{sum_by-cons}
 use Rattle.std.proofs.Math.Nat.{mul-le-mul_left, mul-le-mul_right}
 use Rattle.ce_rows.specs.Blocks.{IsRanking, has_rank_of, block_successors, block_sum_of}
@@ -15,7 +17,8 @@ use Rattle.ce_rows.specs.Rows.{ScaledRows, AreScaledRows, AreRows, successors_in
 use Rattle.ce_rows.specs.declared.row.Row.{Row}
 use Rattle.ce_rows.proofs.Blocks.{entry_at_most, block_sum_at_most}
 use Rattle.ce_vector.specs.PowerIteration.{most_rounds, power_vector}
-use Rattle.ce_vector.proofs.Powers.{length-power_vector, power_round-entry, power_vector-some, power_vector-most, power_vector-below}
+use Rattle.ce_vector.proofs.Powers.{length-power_vector, power_round-entry, power_vector-some, power_vector-most}
+use Rattle.ce_vector.proofs.Powers.{power_vector-below}
 use Rattle.ce_cert.specs.Quotients.{quotient_down, quotient_up, vertices_of, least_quotient, low_of, high_of, least}
 use Rattle.ce_cert.specs.Vectors.{IsVectorOf}
 use Rattle.ce_cert.proofs.BoundsOf.{Contains-map, Contains-filter, Contains-range, All-range, All-passing}

@@ -1,5 +1,6 @@
 -- How a log of one place halts.
-use Rattle.std.proofs.Common.{◌≡◌, ℕ, zero, suc, ◌+◌, ◌<◌, inl, inr, List, [], ◌∷◌, ◌++◌, length, refl, sym, ap, ◌∙◌, subst, arith}
+use Rattle.std.proofs.Common.{◌≡◌, ℕ, zero, suc, ◌+◌, ◌<◌, inl, inr, List, [], ◌∷◌, ◌++◌, length, refl, sym, ap, ◌∙◌}
+use Rattle.std.proofs.Common.{subst, arith}
 use Rattle.ce_rows.specs.Actors.{ActorState}
 use Rattle.ce_rows.specs.declared.act.Act.{Act}
 use Rattle.ce_rows.specs.declared.act.Act.TheVariants.{Raises, Lowers, LoadsLow, LoadsHigh, LoadsStop, Stops}

@@ -20,7 +20,8 @@ use Rattle.ce_crew.proofs.BestVectors.{times-append}
 use Rattle.ce_solve.specs.ChaoticRun.{IsLogOf, IsRun, IsCertifiedLow, IsCertifiedHigh}
 use Rattle.ce_solve.specs.ClosingVectors.{IsClosingLow, IsClosingHigh, IsFirstLowAmong, IsFirstHighAmong}
 use Rattle.ce_solve.proofs.ClosingEnds.{one_offer}
-use Rattle.ce_crew.proofs.LoneSteps.{EachFits-split, IsOffered, IsLoneStep, FitsAlone, lone_steps, one_greatest, one_least}
+use Rattle.ce_crew.proofs.LoneSteps.{EachFits-split, IsOffered, IsLoneStep, FitsAlone, lone_steps, one_greatest}
+use Rattle.ce_crew.proofs.LoneSteps.{one_least}
 use Rattle.ce_crew.proofs.LoneTurns.{one_log, goes_on}
 use Rattle.ce_crew.proofs.WorkerTurns.{halt_silent}
 use Rattle.ce_solve.proofs.LoneHalts.{own_halt, lone_halt}

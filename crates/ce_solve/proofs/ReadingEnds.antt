@@ -2,7 +2,8 @@
 use Rattle.std.proofs.Common.{◌≡◌, ℕ, ◌<◌, ◌⊎◌, inl, inr, List, [], ◌∷◌, ◌++◌, refl, ◌∙◌, subst, arith}
 use Rattle.ce_rows.specs.declared.act.Act.TheVariants.{LoadsLow, LoadsHigh}
 use Rattle.ce_rows.specs.declared.act.LogEntry.{LogEntry}
-use Rattle.ce_words.specs.Logs.{is_raise, is_lower, is_ask, times, Each, EachFits, AnswersUp, AnswersDown, AnswerFits, IsPossibleLog, had}
+use Rattle.ce_words.specs.Logs.{is_raise, is_lower, is_ask, times, Each, EachFits, AnswersUp, AnswersDown, AnswerFits}
+use Rattle.ce_words.specs.Logs.{IsPossibleLog, had}
 use Rattle.ce_words.specs.Steps.{LiesInside}
 use Rattle.ce_words.specs.Views.{view, kept, logged}
 use Rattle.ce_words.specs.declared.view.Part.{Part}

@@ -17,6 +17,7 @@ use Rattle.ce_words.specs.Views.{rows_of}
 use Rattle.ce_words.specs.declared.view.Run.{Run}
 use Rattle.ce_crew.specs.Gains.{IsRunStart}
 use Rattle.ce_solve.specs.declared.preparing.Prepared.{Prepared}
+use Rattle.ce_rows.specs.Limits.{number_limit}
 
 -- Bounds are the Collatz-Wielandt bounds of a vector, which shows them.
 pub record AreBoundsIn (rows : ScaledRows) (ranks vector : List ℕ) (b : Bounds) : Type 0 where
@@ -25,7 +26,7 @@ pub record AreBoundsIn (rows : ScaledRows) (ranks vector : List ℕ) (b : Bounds
   pub high : b.high ≡ high_of rows ranks vector
   pub occurs : Contains ranks b.low_rank
   pub low_shown : IsLowVector rows ranks b.low_rank vector b.low
-  pub high_shown : b.high < 2 ^ 62 → IsHighVector rows ranks vector b.high
+  pub high_shown : b.high < number_limit → IsHighVector rows ranks vector b.high
 
 -- The components of rows, their vector of power iteration, and its bounds.
 pub record IsPrepared (rows : ScaledRows) (rounds : ℕ) (p : Prepared) : Type 0 where

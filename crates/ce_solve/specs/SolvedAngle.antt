@@ -11,6 +11,7 @@ use Rattle.ce_solve.specs.declared.angle.Answer.{Answer}
 use Rattle.ce_solve.specs.declared.angle.SolveError.{SolveError}
 use Rattle.ce_solve.specs.declared.angle.SolveError.TheVariants.{OrbitTooLong, NoMemory}
 use Rattle.ce_solve.specs.declared.settings.Settings.{Settings}
+use Rattle.ce_orbit.specs.Iterates.{most_places}
 
 -- A run on the rows of an orbit, at the scale of the settings, may end like this.
 abbrev pub IsSolutionFor : Settings → ForwardOrbit → Closing → Type 0
@@ -22,7 +23,7 @@ pub record MaySolve (settings : Settings) (angle : Fraction) (closing : Closing)
   pub orbit : ForwardOrbit
   pub of_angle : orbit.angle ≡ angle
   pub is_orbit : IsForwardOrbit orbit
-  pub few : length orbit.places ≤ 128
+  pub few : length orbit.places ≤ most_places
   pub solution : IsSolutionFor settings orbit closing
 
 -- An answer is the angle's.
@@ -32,5 +33,5 @@ pub record MayAnswer (settings : Settings) (asked : Fraction) (answer : Answer) 
 
 -- An orbit above 128 angles is the one cause but memory.
 abbrev pub IsCause : Fraction → SolveError → Type 0
-IsCause angle OrbitTooLong = HasOrbitAbove 128 angle
+IsCause angle OrbitTooLong = HasOrbitAbove most_places angle
 IsCause angle NoMemory = ⊤

@@ -5,6 +5,7 @@ ghost use Rattle.ce_orbit.specs.Orbit.{HasOrbitAbove};
 ghost use Rattle.ce_solve.specs.Limits.{AreWithinLimits};
 ghost use Rattle.ce_solve.specs.SolvedAngle.{IsCause, IsSolutionFor, MayAnswer};
 ghost use Rattle.ce_solve.specs.SolvedRows.{AreReadingsFrom, closing_in};
+ghost use Rattle.ce_orbit.specs.Iterates.{most_places};
 
 use crate::collecting::Solved;
 use crate::settings::Settings;
@@ -70,7 +71,7 @@ pub fn solve<R: Threads + Sync, G: Gate + Sync>(
     ensures readings { IfOk result (λ answer. AreReadingsFrom 0 settings.now.sessions settings.now.reads
         answer.solved.readings.items) }
     ensures cause { IfErr result (IsCause angle) }
-    ensures long { HasOrbitAbove 128 angle → result ≡ Err SolveError.OrbitTooLong }
+    ensures long { HasOrbitAbove most_places angle → result ≡ Err SolveError.OrbitTooLong }
 {
     let Ok(orbit) = Orbit::of(angle) else {
         return Err(SolveError::OrbitTooLong);

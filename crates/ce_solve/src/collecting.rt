@@ -15,7 +15,9 @@ ghost use Rattle.ce_solve.specs.ClosingVectors.{IsClosingLow, IsClosingHigh};
 ghost use Rattle.ce_words.specs.declared.view.Role.TheVariants.{First, Other};
 ghost use Rattle.ce_crew.specs.declared.room.WorkEnd.{WorkEnd};
 ghost use Rattle.ce_crew.specs.Gains.{IsRunStart};
-ghost use Rattle.ce_solve.specs.Actors.{IsTold, IsToldSession, IsFirstSeat, IsInitialCertificate, HasTurns, IsOver, IsOverWorker, IsOverSession, worker_places, places_of, place_of, readings_of, joined_all};
+ghost use Rattle.ce_solve.specs.Actors.{IsTold, IsToldSession, IsFirstSeat, IsInitialCertificate, HasTurns, IsOver};
+ghost use Rattle.ce_solve.specs.Actors.{IsOverWorker, IsOverSession, worker_places, places_of, place_of, readings_of};
+ghost use Rattle.ce_solve.specs.Actors.{joined_all};
 ghost use Rattle.ce_solve.specs.ActorsInside.{IsBestWith, IsBetterOf, AreClosingEnds};
 ghost use Rattle.ce_solve.specs.declared.crew.Actor.TheVariants.{Worker, Session};
 

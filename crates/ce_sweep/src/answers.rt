@@ -11,6 +11,7 @@ ghost use Rattle.ce_solve.specs.SolvedAngle.{MayAnswer};
 ghost use Rattle.ce_sweep.specs.Answers.{AreAlike, AreSolvedBy, AreSweptBy};
 ghost use Rattle.ce_sweep.specs.AnswersInside.{AreCopies, MaySolveKey, SolvesKey, StandsAt};
 ghost use Rattle.ce_solve.specs.declared.settings.Settings.{Settings};
+ghost use Rattle.ce_orbit.specs.Iterates.{most_places};
 
 use crate::Classes;
 use crate::angle_list::angles_up_to;
@@ -127,8 +128,8 @@ pub fn solve_classes<R: Threads + Sync, G: Gate + Sync>(
     requires settings { AreWithinLimits settings }
     ensures solved { IfOk result (λ s. AreSolvedBy settings angles.now
         s.classes.of.items s.classes.first.items s.solved.items) }
-    ensures long { result ≡ Err SolveError.OrbitTooLong → Any (HasOrbitAbove 128) angles.now }
-    ensures short { OnOk result (All (HasOrbitWithin 128) angles.now) }
+    ensures long { result ≡ Err SolveError.OrbitTooLong → Any (HasOrbitAbove most_places) angles.now }
+    ensures short { OnOk result (All (HasOrbitWithin most_places) angles.now) }
 {
     let keys = keys_of(alloc, angles)?;
     match solve_by_keys(rt, alloc, angles, keys.as_slice(), settings, gate) {
@@ -151,7 +152,7 @@ pub fn solve_short_classes<R: Threads + Sync, G: Gate + Sync>(
     requires small { All (IsAngleUpTo 128) angles.now }
     ensures solved { IfOk result (λ s. AreSolvedBy settings angles.now
         s.classes.of.items s.classes.first.items s.solved.items) }
-    ensures short { OnOk result (All (HasOrbitWithin 128) angles.now) }
+    ensures short { OnOk result (All (HasOrbitWithin most_places) angles.now) }
 {
     match solve_classes(rt, alloc, angles, settings, gate) {
         Ok(solutions) => Ok(solutions),
@@ -215,8 +216,8 @@ pub fn solve_list<R: Threads + Sync, G: Gate + Sync>(
     requires settings { AreWithinLimits settings }
     ensures answers { IfOk result (λ v. AllZip (MayAnswer settings) angles.now v.items) }
     ensures alike { IfOk result (λ v. AreAlike v.items) }
-    ensures long { result ≡ Err SolveError.OrbitTooLong → Any (HasOrbitAbove 128) angles.now }
-    ensures short { OnOk result (All (HasOrbitWithin 128) angles.now) }
+    ensures long { result ≡ Err SolveError.OrbitTooLong → Any (HasOrbitAbove most_places) angles.now }
+    ensures short { OnOk result (All (HasOrbitWithin most_places) angles.now) }
 {
     let found = solve_classes(rt, alloc, angles, settings, gate)?;
     match answers_of(alloc, angles, &found) {

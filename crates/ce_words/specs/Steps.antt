@@ -2,7 +2,7 @@
 -- `Permits` what its view says of the shared state, and `IsStep` what the step did, the clause `step`
 -- of the calls of the board. `IsSettled` is what remains once all seats are joined. Source: this
 -- project's choice.
-use Rattle.std.specs.Prelude.{◌≡◌, ⊤, ℕ, ◌^◌, ◌<◌, ◌≤◌, ◌∷◌, length}
+use Rattle.std.specs.Prelude.{◌≡◌, ⊤, ℕ, ◌<◌, ◌≤◌, ◌∷◌, length}
 use Rattle.atomic_table.specs.Table.{Me, Step}
 use Rattle.ce_cert.specs.Vectors.{IsVectorOf}
 use Rattle.ce_rows.specs.Events.{Shared, after_act, answer_of}
@@ -16,6 +16,7 @@ use Rattle.ce_words.specs.Logs.{IsPossibleLog}
 use Rattle.ce_words.specs.Views.{rows_of, kept, logged, noted, seen_low, seen_high}
 use Rattle.ce_words.specs.declared.view.Role.TheVariants.{First}
 use Rattle.ce_words.specs.declared.view.View.{View}
+use Rattle.ce_rows.specs.Limits.{entry_limit}
 
 -- Every seat that was split off was joined.
 pub record IsWhole (v : View) : Type 0 where
@@ -80,8 +81,8 @@ pub record HasAsked (v : View) (count : ℕ) (w : View) : Type 0 where
 -- A seat may take a step: what it owes for it.
 abbrev pub MayStep : View → Act → ℕ → Type 0
 MayStep v (Loads i) carried = i < length v.run.rows
-MayStep v (Relaxes i) carried = (in_part i v.place.part ≡ 1) × (1 ≤ carried) × (carried ≤ 2 ^ 60)
-MayStep v (Shrinks i) carried = (in_part i v.place.part ≡ 1) × (1 ≤ carried) × (carried ≤ 2 ^ 60)
+MayStep v (Relaxes i) carried = (in_part i v.place.part ≡ 1) × (1 ≤ carried) × (carried ≤ entry_limit)
+MayStep v (Shrinks i) carried = (in_part i v.place.part ≡ 1) × (1 ≤ carried) × (carried ≤ entry_limit)
 MayStep v Raises carried = IsLowerBoundOf (rows_of v.run) carried
 MayStep v Lowers carried = IsUpperBoundOf (rows_of v.run) carried
 MayStep v Asks carried = carried ≤ most_rescalings

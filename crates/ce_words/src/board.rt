@@ -3,9 +3,13 @@
 ghost use Rattle.std.specs.Prelude.{◌≡◌, ◌∷◌, ◌≤◌, ◌<◌, ◌+◌, ◌^◌, true, IfOk, ℕ, length, slice_index, if◌then◌else◌};
 ghost use Rattle.ce_cert.specs.Start.{IsStart};
 ghost use Rattle.ce_rows.specs.Rows.{EnclosesRows, IsLowerBoundOf, IsUpperBoundOf};
-ghost use Rattle.ce_rows.specs.declared.act.Act.TheVariants.{Loads, Relaxes, Shrinks, LoadsLow, LoadsHigh, Raises, Lowers, LoadsShift, Asks, LoadsStop, Stops};
-ghost use Rattle.ce_words.specs.Logs.{is_raise, is_lower, is_ask, is_stop, times, halts, last_value, in_part, by_place, Each};
-ghost use Rattle.ce_words.specs.Views.{run_of, rows_of, view, opened, noted, logged, seen_low, seen_high, cut_left, cut_right, both_of, CanCut};
+ghost use Rattle.ce_rows.specs.declared.act.Act.TheVariants.{Loads, Relaxes, Shrinks, LoadsLow, LoadsHigh, Raises};
+ghost use Rattle.ce_rows.specs.declared.act.Act.TheVariants.{Lowers, LoadsShift, Asks, LoadsStop, Stops};
+ghost use Rattle.ce_words.specs.Logs.{is_raise, is_lower, is_ask, is_stop, times, halts, last_value, in_part};
+ghost use Rattle.ce_words.specs.Logs.{by_place, Each};
+ghost use Rattle.ce_words.specs.Views.{run_of, rows_of, view, opened, noted, logged, seen_low, seen_high, cut_left};
+ghost use Rattle.ce_words.specs.Views.{cut_right, both_of, CanCut};
+ghost use Rattle.ce_rows.specs.Limits.{entry_limit};
 
 use crate::plays::{
     AskShift, Cut, Glue, LoadEntry, LoadHigh, LoadLow, LoadShift, LoadStop, LowerHigh, Parting,
@@ -194,7 +198,7 @@ impl Board {
         ensures view { view seat.new ≡ noted (view seat.old) (logged (Loads i) 0 result) }
         ensures step { IsStep (view seat.old) (Loads i) 0 result }
         ensures positive { 1 ≤ result }
-        ensures small { result ≤ 2 ^ 60 }
+        ensures small { result ≤ entry_limit }
         ensures owned { Each (λ p. in_part i p.part ≡ 1
             → result ≡ last_value i (slice_index (board_run self.now).start i) p.log)
             ((view seat.old).place ∷ (view seat.old).joined) }
@@ -208,7 +212,7 @@ impl Board {
         requires entry { i < length (board_run self.now).rows }
         requires own { in_part i (view seat.old).place.part ≡ 1 }
         requires positive { 1 ≤ value }
-        requires small { value ≤ 2 ^ 60 }
+        requires small { value ≤ entry_limit }
         ensures sits { Sits self.now seat.new }
         ensures view { view seat.new
             ≡ noted (view seat.old) (logged (if shrinks then Shrinks i else Relaxes i) value value) }

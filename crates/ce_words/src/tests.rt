@@ -7,8 +7,8 @@ ghost use Rattle.ce_words.specs.Views.{rows_of, view, opened};
 
 use crate::{Board, Part, Seat};
 use ce_cert::{Bounds, bounds};
-use ce_rows::Row::{One, Two};
-use ce_rows::{Interval, NoMemory, Rows, RowsMaker, is_ranking};
+use ce_rows::Row::One;
+use ce_rows::{Interval, QUARTER, Row, Rows, is_ranking};
 use std::alloc::Global;
 use std::test::Fail;
 use std::thread::{Threads, for_each_mut};
@@ -17,27 +17,8 @@ const START: [u64; 3] = [1, 1, 1];
 
 const RANKS: [u32; 3] = [0, 0, 0];
 
-// The rows of 1/4.
-fn quarter(alloc: Global) -> Result<Rows, NoMemory>
-    ensures { IfOk result (λ rows. length rows.list ≡ 3) }
-{
-    let mut maker = RowsMaker::new(alloc, 3)?;
-    maker.push(One(2));
-    maker.push(Two(0, 1));
-    maker.push(Two(1, 1));
-    Ok(maker.finish())
-}
-
 // Three rows on a cycle, whose bounds are equal.
-fn cycle(alloc: Global) -> Result<Rows, NoMemory>
-    ensures { IfOk result (λ rows. length rows.list ≡ 3) }
-{
-    let mut maker = RowsMaker::new(alloc, 3)?;
-    maker.push(One(1));
-    maker.push(One(2));
-    maker.push(One(0));
-    Ok(maker.finish())
-}
+const CYCLE: [Row; 3] = [One(1), One(2), One(0)];
 
 // A board whose initial enclosure is the bounds of three equal entries.
 fn made(alloc: Global, rows: &Rows) -> Result<(Board, Seat), Fail>
@@ -65,7 +46,7 @@ fn made(alloc: Global, rows: &Rows) -> Result<(Board, Seat), Fail>
 
 #[test]
 fn seats_see_the_best_of_what_was_certified(rt: HostRuntime) -> Result<(), Fail> {
-    let rows = quarter(rt.alloc())?;
+    let rows = Rows::from_slice(rt.alloc(), &QUARTER)?;
     let (board, mut first) = made(rt.alloc(), &rows)?;
     let mut a = board.split(&mut first, Part { from: 0, to: 0 });
     let mut b = board.split(&mut first, Part { from: 0, to: 0 });
@@ -91,7 +72,7 @@ fn seats_see_the_best_of_what_was_certified(rt: HostRuntime) -> Result<(), Fail>
 
 #[test]
 fn entries_and_rescalings_are_seen_by_all(rt: HostRuntime) -> Result<(), Fail> {
-    let rows = quarter(rt.alloc())?;
+    let rows = Rows::from_slice(rt.alloc(), &QUARTER)?;
     let (board, mut first) = made(rt.alloc(), &rows)?;
     let mut b = board.split(&mut first, Part { from: 0, to: 3 });
     let mut a = board.split(&mut first, Part { from: 0, to: 0 });
@@ -115,7 +96,7 @@ fn entries_and_rescalings_are_seen_by_all(rt: HostRuntime) -> Result<(), Fail> {
 
 #[test]
 fn equal_bounds_stop(rt: HostRuntime) -> Result<(), Fail> {
-    let rows = cycle(rt.alloc())?;
+    let rows = Rows::from_slice(rt.alloc(), &CYCLE)?;
     let (board, mut a) = made(rt.alloc(), &rows)?;
     let mut b = board.split(&mut a, Part { from: 0, to: 3 });
     let seen = board.load_bounds(&mut a);
@@ -168,7 +149,7 @@ fn run_all(rt: &(impl Threads + Sync), board: &Board, actors: &mut [Actor])
 
 #[test]
 fn values_that_rise_never_fall_for_another_thread(rt: HostRuntime) -> Result<(), Fail> {
-    let rows = quarter(rt.alloc())?;
+    let rows = Rows::from_slice(rt.alloc(), &QUARTER)?;
     let (board, mut first) = made(rt.alloc(), &rows)?;
     let owner = board.split(&mut first, Part { from: 0, to: 3 });
     let other = board.split(&mut first, Part { from: 0, to: 0 });

@@ -13,7 +13,9 @@ use Rattle.ce_rows.specs.Rows.{AreScaledRows, EnclosesRows, ScaledRows}
 use Rattle.ce_rows.specs.Scale.{IsExponent}
 use Rattle.ce_rows.specs.declared.no_memory.NoMemory.{NoMemory}
 use Rattle.ce_rows.specs.declared.interval.Interval.{Interval}
-use Rattle.ce_solve.specs.SolvedRows.{Closing, IsSolved}
+use Rattle.ce_words.specs.Steps.{LiesInside}
+use Rattle.ce_words.specs.declared.view.Run.{Run}
+use Rattle.ce_solve.specs.SolvedRows.{IsRunOf, Closing, IsSolved}
 use Rattle.ce_thurston.proofs.OrbitRows.{rows_in_range}
 use Rattle.core_entropy.specs.Angle.{IsAngleText, angle_task, interval_of, line_of}
 use Rattle.ce_thurston.specs.Indices.{rows_at}
@@ -78,21 +80,29 @@ one_true o angle rounds exponent interval is_orbit of_angle encloses inside =
     All-cons IsTrueClaim (solved angle rounds exponent interval) []
     (claim_true o angle rounds exponent interval is_orbit of_angle encloses inside) (All-nil IsTrueClaim)
 
+-- What a run begins with is the initial enclosure.
+pub inside_of_run : (rows : ScaledRows) (rounds : ℕ) (run : Run) (interval : Interval) → AreScaledRows rows
+    → IsRunOf rows rounds run → LiesInside run.initial.low run.initial.high interval.low interval.high
+    → IsInsideInitial rows interval rounds
+inside_of_run rows rounds run interval are of inside = record {
+  initial = run.initial;
+  is_initial = record {
+    are_rows = are;
+    ranks = run.ranks;
+    numbering = of.numbering;
+    low = of.low;
+    high = of.high;
+  };
+  from = inside.from;
+  to = inside.to;
+}
+
 -- The closing interval of a run lies inside the initial enclosure.
 pub inside_initial : (rows : ScaledRows) (rounds turns workers : ℕ) (e : Closing) → AreScaledRows rows
     → IsSolved rows rounds turns workers e → IsInsideInitial rows (interval_of e) rounds
-inside_initial rows rounds turns workers e are h = record {
-  initial = h.run.initial;
-  is_initial = record {
-    are_rows = are;
-    ranks = h.run.ranks;
-    numbering = h.run_of.numbering;
-    low = h.run_of.low;
-    high = h.run_of.high;
-  };
-  from = h.is_run.greatest.from;
-  to = h.is_run.least.from;
-}
+inside_initial rows rounds turns workers e are h =
+    inside_of_run rows rounds h.run (interval_of e) are h.run_of
+    (record { from = h.is_run.greatest.from; to = h.is_run.least.from })
 
 module _ (angle : Fraction) (rounds turns workers exponent : ℕ) (known : IsExponent exponent) where
   angle_true : (input text : List ℕ) → IsAngleText angle rounds turns workers exponent text

@@ -4,7 +4,6 @@ use Rattle.std.specs.Prelude.{IfSome}
 use Rattle.ce_degree.specs.DegreeOrbit.{OrbitOfDegree, IsOrbitOfDegree, portrait_of}
 use Rattle.ce_degree.proofs.DoublingRows.{rows_of_two, walks_of_two}
 use Rattle.ce_orbit.specs.Orbit.{ForwardOrbit, IsForwardOrbit}
-use Rattle.ce_orbit.proofs.Next.{orbit_of_doubling}
 use Rattle.ce_rows.specs.Growth.{Encloses}
 use Rattle.ce_rows.specs.declared.interval.Interval.{Interval}
 use Rattle.ce_rows.specs.declared.row.Row.{Row}
@@ -24,7 +23,7 @@ doubling_is : (o : ForwardOrbit) → IsForwardOrbit o → IsOrbitOfDegree (doubl
 doubling_is o is = record {
   degree = record { at_least = omega arith; at_most = omega arith };
   angle = is.angle;
-  orbit = orbit_of_doubling o is;
+  orbit = is.orbit;
 }
 
 -- What lies inside an initial enclosure of rows does so of the same rows.

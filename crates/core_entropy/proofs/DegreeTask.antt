@@ -1,5 +1,5 @@
 -- The task of the command `degree`.
-use Rattle.std.proofs.Common.{length, ◌≡◌, ◌≤◌, ◌∙◌, ℕ, true, List, []}
+use Rattle.std.proofs.Common.{length, ◌≡◌, ◌≤◌, ◌∙◌, ℕ, List, []}
 use Rattle.std.proofs.Common.{◌∷◌, refl, sym, subst, arith, Result, String, Global, string_bytes}
 use Rattle.std.specs.Prelude.{IfOk}
 use Rattle.std.proofs.lemmas.Result.{IfOk-weaker}

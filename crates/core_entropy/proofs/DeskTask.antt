@@ -1,8 +1,9 @@
 -- What the command `desk` tells is true, and how it ends.
-use Rattle.std.proofs.Common.{◌≡◌, ◌≢◌, ◌<◌, ◌≤◌, ◌⊎◌, ◌∙◌, ℕ, Bool, List, [], length, slice_index_or, Option, None, Some}
+use Rattle.std.proofs.Common.{◌≡◌, ◌≢◌, ◌⊎◌, ◌∙◌, ℕ, Bool, List, [], slice_index_or, Option, None}
+use Rattle.std.proofs.Common.{Some}
 use Rattle.std.proofs.Common.{inl, inr, refl, sym, ap, subst, arith}
 use Rattle.std.specs.Prelude.{All, IfOk, Result, Ok, Err}
-use Rattle.std.specs.Result.{IfErr, IsErrAnd}
+use Rattle.std.specs.Result.{IfErr}
 use Rattle.std.proofs.KnownBytes.{Consumes-nil}
 use Rattle.std.proofs.lemmas.List.Elements.{All-nil, All-weaker}
 use Rattle.ce_command.specs.Meaning.{command_of}
@@ -14,16 +15,11 @@ use Rattle.ce_command.proofs.TableRows.{all_limited}
 use Rattle.ce_desk.proofs.Sound.{replies_sound, closing_true}
 use Rattle.ce_desk.specs.Desk.{Slot, Desk, empty_desk}
 use Rattle.ce_desk.specs.DeskText.{AreReplies, IsDeskText, IsOpeningText}
-use Rattle.ce_desk.specs.Served.{ServedAll, ServedSome, IsTooLong}
-use Rattle.ce_desk.specs.ServedInside.{HasServed}
+use Rattle.ce_desk.specs.Served.{ServedAll, ServedSome}
 use Rattle.ce_desk.specs.Sound.{IsTrueOf, IsSound}
-use Rattle.ce_desk.specs.declared.closing.Closing.{Closing}
-use Rattle.ce_desk.specs.declared.serving.DeskEnd.{DeskEnd}
 use Rattle.ce_desk.specs.declared.settings.DeskSettings.{DeskSettings}
 use Rattle.ce_desk.specs.declared.serving.DeskStop.{DeskStop}
 use Rattle.ce_desk.specs.declared.serving.DeskStop.TheVariants as stop
-use Rattle.ce_port.specs.Sink.{Rose}
-use Rattle.ce_port.specs.WriteAll.{GrewByPrefix}
 use Rattle.ce_port.proofs.Paging.{whole-prefix, none-prefix}
 use Rattle.ce_rows.specs.Rows.{AreScaledRows, EnclosesRows, ScaledRows}
 use Rattle.ce_rows.specs.Scale.{IsExponent}
@@ -31,10 +27,9 @@ use Rattle.ce_rows.specs.declared.interval.Interval.{Interval}
 use Rattle.ce_thurston.proofs.OrbitRows.{rows_in_range}
 use Rattle.ce_thurston.specs.Indices.{rows_at}
 use Rattle.core_entropy.proofs.AngleTask.{claim_true}
-use Rattle.core_entropy.specs.Desk.{AskForDesk, AskForAnyDesk, IsDesk, status_of, HasRunDesk, IsTrueSlot, AreTrueClosings}
+use Rattle.core_entropy.specs.Desk.{AskForDesk, AskForAnyDesk, IsDesk, HasRunDesk, IsTrueSlot}
 use Rattle.core_entropy.specs.Desk.{TellsTruly, OpensTruly, DeskHeadline}
 use Rattle.core_entropy.specs.Headline.{IsTrueClaim}
-use Rattle.core_entropy.specs.Status.{IsUnlessNoMemory, of_words}
 use Rattle.core_entropy.specs.Task.{solved}
 use Rattle.core_entropy.specs.declared.status.Status.{Status}
 use Rattle.core_entropy.specs.declared.status.Status.TheVariants as status
@@ -150,7 +145,7 @@ module _ {S O : Type 0} (left : S → Option (List ℕ)) (read_faults : S → �
       );
       too_long = λ same. absurd (cc);
       answered = λ same. absurd (cc);
-      answered_ahead = λ same. absurd (cc);
+      answered_all = λ same. absurd (cc);
       read_fault = λ same. absurd (cc);
       write_fault = λ same. absurd (cc);
       read = omega arith;
@@ -190,7 +185,8 @@ any_desk words asked is (r, w, e, desk) = (r, w, e, is ∙ ap (λ (c : Command).
 -- What was served as the words ask was served as they ask by other names.
 pub served_as : {S O : Type 0} (left : S → Option (List ℕ)) (read_faults : S → ℕ) (taken : O → Option (List ℕ))
     (write_faults : O → ℕ) (words : List (List ℕ)) (r w e rounds workers exponent : ℕ)
-    (source : S) (out : O) (s : Status) (source_after : S) (out_after : O) → AskForDesk words r w e → AskForDesk words rounds workers exponent
+    (source : S) (out : O) (s : Status) (source_after : S) (out_after : O) → AskForDesk words r w e
+    → AskForDesk words rounds workers exponent
     → HasRunDesk left read_faults taken write_faults r e source out s source_after out_after
     → HasRunDesk left read_faults taken write_faults rounds exponent source out s source_after out_after
 served_as left read_faults taken write_faults words r w e rounds workers exponent source out s source_after out_after

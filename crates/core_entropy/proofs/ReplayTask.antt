@@ -26,7 +26,7 @@ use Rattle.core_entropy.specs.Output.{HasEnded, Wrote}
 use Rattle.core_entropy.specs.Status.{IsCalledFor, IsOfWriting, ended_with, of_script}
 use Rattle.core_entropy.specs.Task.{solved}
 use Rattle.core_entropy.specs.declared.status.Status.{Status}
-use Rattle.core_entropy.specs.declared.status.Status.TheVariants.{Done, OrbitTooLong, BadEvent, NoMemory}
+use Rattle.core_entropy.specs.declared.status.Status.TheVariants.{Done, OrbitTooLong, BadEvent}
 use Rattle.ce_core.specs.declared.script.ScriptError.{ScriptError}
 use Rattle.ce_core.specs.declared.script.ScriptError.TheVariants as script_error
 use Rattle.core_entropy.proofs.AngleTask.{long_or_not, not_long, one_true, short_if}

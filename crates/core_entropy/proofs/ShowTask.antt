@@ -1,5 +1,5 @@
 -- The task of the command `show`.
-use Rattle.std.proofs.Common.{◌≡◌, ◌≤◌, ◌+◌, ◌++◌, [], ◌∙◌, inr, ℕ, List, Option, length, refl}
+use Rattle.std.proofs.Common.{◌≡◌, ◌≤◌, ◌++◌, [], ◌∙◌, inr, ℕ, List, Option, length, refl}
 use Rattle.std.proofs.Common.{sym, ap, subst}
 use Rattle.std.proofs.lemmas.List.Elements.{All-nil}
 use Rattle.ce_angle.specs.Fraction.{Fraction, IsAngle}

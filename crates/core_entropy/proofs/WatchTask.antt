@@ -7,15 +7,14 @@ use Rattle.ce_angle.specs.Fraction.{Fraction, IsAngle}
 use Rattle.ce_cert.proofs.Enclose.{certificate_encloses}
 use Rattle.ce_live.specs.declared.reading.Reading.{Reading}
 use Rattle.ce_orbit.specs.Orbit.{ForwardOrbit, HasOrbitWithin, IsForwardOrbit}
-use Rattle.ce_rows.specs.Growth.{Encloses}
-use Rattle.ce_rows.specs.Rows.{AreScaledRows, ScaledRows}
+use Rattle.ce_rows.specs.Rows.{AreScaledRows, EnclosesRows, ScaledRows, all_walks}
 use Rattle.ce_rows.specs.Scale.{IsExponent}
-use Rattle.ce_solve.specs.SolvedRows.{AreReadingsFrom, Closing, IsSolved}
+use Rattle.ce_solve.specs.SolvedRows.{AreReadingsFrom, Closing, IsRunOf, IsSolved}
 use Rattle.ce_thurston.specs.Indices.{rows_at}
-use Rattle.ce_thurston.specs.Pairs.{pair_walks}
 use Rattle.ce_thurston.proofs.OrbitRows.{rows_in_range}
 use Rattle.ce_words.specs.Logs.{Each}
 use Rattle.ce_words.specs.Steps.{LiesInside}
+use Rattle.ce_words.specs.declared.view.Run.{Run}
 use Rattle.core_entropy.specs.Angle.{interval_of}
 use Rattle.core_entropy.specs.Calls.{CallsFor}
 use Rattle.core_entropy.specs.Headline.{ClaimsTruly, IsTrueClaim}
@@ -24,28 +23,33 @@ use Rattle.core_entropy.specs.Status.{IsEndOfAnswer}
 use Rattle.core_entropy.specs.Watch.{IsWatchText, reading_claim, watch_task, watch_text}
 use Rattle.core_entropy.specs.declared.status.Status.{Status}
 use Rattle.core_entropy.specs.declared.status.Status.TheVariants.{Done}
-use Rattle.core_entropy.proofs.DegreeClaims.{doubling_true}
-use Rattle.core_entropy.proofs.AngleTask.{inside_initial, one_true, orbit_called, orbit_one, orbit_some, short_done}
+use Rattle.core_entropy.proofs.AngleTask.{claim_true, inside_initial, inside_of_run, one_true, orbit_called}
+use Rattle.core_entropy.proofs.AngleTask.{orbit_one, orbit_some, short_done}
 use Rattle.ce_solve.proofs.Enclosing.{widened}
-use Rattle.core_entropy.proofs.Enclosed.{pairs_enclosed}
 use Rattle.core_entropy.proofs.Ended.{answered}
 use Rattle.core_entropy.proofs.Stages.{IsLawful}
 
-module _ (angle : Fraction) (exponent : ℕ) (o : ForwardOrbit) (is_orbit : IsForwardOrbit o) (of_angle : o.angle ≡ angle)
-    (low high : ℕ) (encloses : Encloses exponent (pair_walks o) low high) where
+module _ (angle : Fraction) (rounds exponent : ℕ) (o : ForwardOrbit) (is_orbit : IsForwardOrbit o)
+    (of_angle : o.angle ≡ angle) (are : AreScaledRows (rows_at o exponent)) (run : Run)
+    (run_of : IsRunOf (rows_at o exponent) rounds run)
+    (low high : ℕ) (encloses : EnclosesRows (rows_at o exponent) low high) where
   reading_true : (r : Reading) → LiesInside r.interval.low r.interval.high low high
-      → IsTrueClaim (reading_claim angle exponent r)
-  reading_true r contains =
-      let wide = widened exponent (pair_walks o) low high r.interval.low r.interval.high
+      → LiesInside run.initial.low run.initial.high r.interval.low r.interval.high
+      → IsTrueClaim (reading_claim angle rounds exponent r)
+  reading_true r contains inside =
+      let wide = widened exponent (all_walks (rows_at o exponent).list) low high r.interval.low r.interval.high
       contains.from contains.to encloses in
-      doubling_true o (reading_claim angle exponent r) is_orbit refl of_angle wide tt
+      claim_true o angle rounds exponent r.interval is_orbit of_angle wide
+      (inside_of_run (rows_at o exponent) rounds run r.interval are run_of inside)
 
-  readings_true : (readings : List Reading) → Each (λ (r : Reading). LiesInside r.interval.low r.interval.high low high)
-      readings → All IsTrueClaim (map (reading_claim angle exponent) readings)
-  readings_true [] each = All-nil IsTrueClaim
-  readings_true (r ∷ rest) each =
-      All-cons IsTrueClaim (reading_claim angle exponent r) (map (reading_claim angle exponent) rest)
-      (reading_true r each.0) (readings_true rest each.1)
+  readings_true : (readings : List Reading)
+      → Each (λ (r : Reading). LiesInside r.interval.low r.interval.high low high) readings
+      → Each (λ (r : Reading). LiesInside run.initial.low run.initial.high r.interval.low r.interval.high) readings
+      → All IsTrueClaim (map (reading_claim angle rounds exponent) readings)
+  readings_true [] contain inside = All-nil IsTrueClaim
+  readings_true (r ∷ rest) contain inside =
+      All-cons IsTrueClaim (reading_claim angle rounds exponent r) (map (reading_claim angle rounds exponent) rest)
+      (reading_true r contain.0 inside.0) (readings_true rest contain.1 inside.1)
 
 module _ (angle : Fraction) (rounds turns workers sessions reads exponent : ℕ) (known : IsExponent exponent) where
   watch_true : (input text : List ℕ) → IsWatchText angle rounds turns workers sessions reads exponent text
@@ -57,9 +61,9 @@ module _ (angle : Fraction) (rounds turns workers sessions reads exponent : ℕ)
       let interval = interval_of h.closing in
       let last = one_true h.orbit angle rounds exponent interval h.is_orbit h.of_angle encloses
       (inside_initial rows rounds turns workers h.closing are h.solution) in
-      let pairs = pairs_enclosed h.orbit exponent interval.low interval.high h.is_orbit encloses in
-      let first = readings_true angle exponent h.orbit h.is_orbit h.of_angle interval.low interval.high pairs
-      h.closing.readings h.solution.contain in
+      let first = readings_true angle rounds exponent h.orbit h.is_orbit h.of_angle are h.solution.run
+      h.solution.run_of interval.low interval.high encloses h.closing.readings h.solution.contain
+      h.solution.inside_initial in
       (_, (h.closing.readings, interval, h.spelled, refl), All-append IsTrueClaim _ _ first last)
 
   pub watch_lawful : IsAngle angle → IsLawful (watch_task rounds turns workers sessions reads exponent angle)

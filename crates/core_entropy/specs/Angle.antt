@@ -10,6 +10,7 @@ use Rattle.ce_solve.specs.SolvedRows.{Closing, IsSolved}
 use Rattle.core_entropy.specs.Task.{Task, Unless, solved}
 use Rattle.ce_angle.specs.Spelled.{ended, fraction_text}
 use Rattle.core_entropy.specs.declared.status.Status.TheVariants.{Done, OrbitTooLong}
+use Rattle.ce_orbit.specs.Iterates.{most_places}
 
 -- `angle P/Q low L high H`, and at another scale than 2^32 `angle P/Q scale E low L high H`
 abbrev pub line_of : Fraction → ℕ → Interval → List ℕ
@@ -28,7 +29,7 @@ pub record IsAngleText (angle : Fraction) (rounds turns workers exponent : ℕ) 
   pub orbit : ForwardOrbit
   pub is_orbit : IsForwardOrbit orbit
   pub of_angle : orbit.angle ≡ angle
-  pub few : length orbit.places ≤ 128
+  pub few : length orbit.places ≤ most_places
   pub closing : Closing
   pub solution : IsSolved (rows_at orbit exponent) rounds turns workers closing
   pub spelled : text ≡ line_of angle exponent (interval_of closing)
@@ -36,7 +37,7 @@ pub record IsAngleText (angle : Fraction) (rounds turns workers exponent : ℕ) 
 abbrev pub angle_task : ℕ → ℕ → ℕ → ℕ → Fraction → Task
 angle_task rounds turns workers exponent angle = record {
   limit = None;
-  Ends = λ input. Unless (HasOrbitAbove 128 angle) OrbitTooLong (λ s. s ≡ Done);
+  Ends = λ input. Unless (HasOrbitAbove most_places angle) OrbitTooLong (λ s. s ≡ Done);
   Writes = λ input text. IsAngleText angle rounds turns workers exponent text;
   Claims = λ input text claims. (interval : Interval) × (text ≡ line_of angle exponent interval)
       × (claims ≡ solved angle rounds exponent interval ∷ []);

@@ -12,6 +12,7 @@ use Rattle.core_entropy.specs.Probe.{IsInitialOf}
 use Rattle.core_entropy.specs.Task.{Task, Unless}
 use Rattle.ce_angle.specs.Spelled.{ended, fraction_text}
 use Rattle.core_entropy.specs.declared.status.Status.TheVariants.{Done, OrbitTooLong}
+use Rattle.ce_orbit.specs.Iterates.{most_places}
 
 abbrev pub relation_word : Relation → List ℕ
 relation_word Equal = codes "equal"
@@ -57,7 +58,7 @@ pub record IsCompareText (a b : Fraction) (rounds exponent : ℕ) (text : List �
 
 -- An orbit of the two has more than 128 angles.
 abbrev pub HasLongOrbit : Fraction → Fraction → Type 0
-HasLongOrbit a b = HasOrbitAbove 128 a ⊎ HasOrbitAbove 128 b
+HasLongOrbit a b = HasOrbitAbove most_places a ⊎ HasOrbitAbove most_places b
 
 -- why two angles are not compared
 abbrev pub IsCauseOf : Fraction → Fraction → SolveError → Type 0

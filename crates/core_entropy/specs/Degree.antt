@@ -11,6 +11,7 @@ use Rattle.ce_thurston.specs.PortraitRows.{rows_on}
 use Rattle.core_entropy.specs.Angle.{interval_of, line_of}
 use Rattle.core_entropy.specs.Task.{Task, Unless, solved_in}
 use Rattle.core_entropy.specs.declared.status.Status.TheVariants.{Done, OrbitTooLong}
+use Rattle.ce_orbit.specs.Iterates.{most_places}
 
 -- the rows of an orbit in a degree, at the scale with an exponent
 abbrev pub degree_rows_at : OrbitOfDegree → ℕ → ScaledRows
@@ -29,7 +30,7 @@ pub record IsDegreeText (degree : ℕ) (angle : Fraction) (rounds turns workers 
   pub is_orbit : IsOrbitOfDegree orbit
   pub of_degree : orbit.degree ≡ degree
   pub of_angle : orbit.angle ≡ angle
-  pub few : length orbit.places ≤ 128
+  pub few : length orbit.places ≤ most_places
   pub closing : Closing
   pub solution : IsSolved (degree_rows_at orbit exponent) rounds turns workers closing
   pub spelled : text ≡ degree_line degree angle exponent (interval_of closing)
@@ -37,7 +38,7 @@ pub record IsDegreeText (degree : ℕ) (angle : Fraction) (rounds turns workers 
 abbrev pub degree_task : ℕ → ℕ → ℕ → ℕ → ℕ → Fraction → Task
 degree_task degree rounds turns workers exponent angle = record {
   limit = None;
-  Ends = λ input. Unless (HasOrbitAbove 128 degree angle) OrbitTooLong (λ s. s ≡ Done);
+  Ends = λ input. Unless (HasOrbitAbove most_places degree angle) OrbitTooLong (λ s. s ≡ Done);
   Writes = λ input text. IsDegreeText degree angle rounds turns workers exponent text;
   Claims = λ input text claims. (interval : Interval) × (text ≡ degree_line degree angle exponent interval)
       × (claims ≡ solved_in degree angle rounds exponent interval ∷ []);

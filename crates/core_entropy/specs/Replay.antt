@@ -20,17 +20,18 @@ use Rattle.core_entropy.specs.Task.{Task, Unless, solved}
 use Rattle.ce_angle.specs.Spelled.{ended}
 use Rattle.core_entropy.specs.declared.status.Status.{Status}
 use Rattle.core_entropy.specs.declared.status.Status.TheVariants.{Done, OrbitTooLong, BadEvent}
+use Rattle.ce_orbit.specs.Iterates.{most_places}
 
 -- A text is a script for an angle: each line is an event of one of sixteen actors, on an entry for
 -- one of the pairs, if it is on one.
 pub record HasScript (angle : Fraction) (script : List ℕ) : Type 0 where
-  pub short : HasOrbitWithin 128 angle
+  pub short : HasOrbitWithin most_places angle
   pub events : List Event
   pub read : IsScriptOf (length (rows_of_orbit short.orbit)) script events
 
 -- A line of a text is the first one that is no event for an angle.
 pub record HasBadLine (angle : Fraction) (script : List ℕ) (line : ℕ) : Type 0 where
-  pub short : HasOrbitWithin 128 angle
+  pub short : HasOrbitWithin most_places angle
   pub bad : IsFirstBad (length (rows_of_orbit short.orbit)) script line
 
 -- what sixteen actors share after events, from the start of so many rounds and from an
@@ -75,7 +76,7 @@ EndsByScript angle script s =
 abbrev pub replay_task : ℕ → ℕ → Fraction → Task
 replay_task rounds exponent angle = record {
   limit = Some script_limit;
-  Ends = λ script. Unless (HasOrbitAbove 128 angle) OrbitTooLong (EndsByScript angle script);
+  Ends = λ script. Unless (HasOrbitAbove most_places angle) OrbitTooLong (EndsByScript angle script);
   Writes = λ script text. IsReplayText angle rounds exponent script text;
   Claims = λ script text claims. (shared : Shared) × (text ≡ replay_text angle exponent shared)
       × (claims ≡ solved angle rounds exponent (shared_interval shared) ∷ []);

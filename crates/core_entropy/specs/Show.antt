@@ -13,6 +13,7 @@ use Rattle.ce_thurston.specs.Indices.{index_of, pair_places, rows_of_orbit}
 use Rattle.core_entropy.specs.Task.{Task, Unless}
 use Rattle.ce_angle.specs.Spelled.{ended, fraction_text}
 use Rattle.core_entropy.specs.declared.status.Status.TheVariants.{Done, OrbitTooLong}
+use Rattle.ce_orbit.specs.Iterates.{most_places}
 
 -- words, each after a space
 abbrev pub spaced : {X : Type 0} → (X → List ℕ) → List X → List ℕ
@@ -68,7 +69,7 @@ pub record IsShowText (angle : Fraction) (text : List ℕ) : Type 0 where
 abbrev pub show_task : Fraction → Task
 show_task angle = record {
   limit = None;
-  Ends = λ input. Unless (HasOrbitAbove 128 angle) OrbitTooLong (λ s. s ≡ Done);
+  Ends = λ input. Unless (HasOrbitAbove most_places angle) OrbitTooLong (λ s. s ≡ Done);
   Writes = λ input text. IsShowText angle text;
   Claims = λ input text claims. claims ≡ [];
 }

@@ -14,6 +14,7 @@ use Rattle.core_entropy.specs.Angle.{interval_of, line_of}
 use Rattle.core_entropy.specs.Task.{Claim, Task, Unless, solved}
 use Rattle.ce_angle.specs.Spelled.{ended}
 use Rattle.core_entropy.specs.declared.status.Status.TheVariants.{Done, OrbitTooLong}
+use Rattle.ce_orbit.specs.Iterates.{most_places}
 
 -- `session S reading K low L high H`
 abbrev pub reading_line : Reading → List ℕ
@@ -31,23 +32,22 @@ pub record IsWatchText (angle : Fraction) (rounds turns workers sessions reads e
   pub orbit : ForwardOrbit
   pub is_orbit : IsForwardOrbit orbit
   pub of_angle : orbit.angle ≡ angle
-  pub few : length orbit.places ≤ 128
+  pub few : length orbit.places ≤ most_places
   pub closing : Closing
   pub solution : IsSolved (rows_at orbit exponent) rounds turns workers closing
   pub readings : AreReadingsFrom 0 sessions reads closing.readings
   pub spelled : text ≡ watch_text angle exponent closing.readings (interval_of closing)
 
 -- the interval that a session read
-abbrev pub reading_claim : Fraction → ℕ → Reading → Claim
-reading_claim angle exponent r =
-    record { degree = 2; angle = angle; exponent = exponent; interval = r.interval; rounds = None }
+abbrev pub reading_claim : Fraction → ℕ → ℕ → Reading → Claim
+reading_claim angle rounds exponent r = solved angle rounds exponent r.interval
 
 abbrev pub watch_task : ℕ → ℕ → ℕ → ℕ → ℕ → ℕ → Fraction → Task
 watch_task rounds turns workers sessions reads exponent angle = record {
   limit = None;
-  Ends = λ input. Unless (HasOrbitAbove 128 angle) OrbitTooLong (λ s. s ≡ Done);
+  Ends = λ input. Unless (HasOrbitAbove most_places angle) OrbitTooLong (λ s. s ≡ Done);
   Writes = λ input text. IsWatchText angle rounds turns workers sessions reads exponent text;
   Claims = λ input text claims. (readings : List Reading) × (interval : Interval)
       × (text ≡ watch_text angle exponent readings interval)
-      × (claims ≡ map (reading_claim angle exponent) readings ++ solved angle rounds exponent interval ∷ []);
+      × (claims ≡ map (reading_claim angle rounds exponent) readings ++ solved angle rounds exponent interval ∷ []);
 }

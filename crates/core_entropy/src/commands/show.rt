@@ -4,6 +4,7 @@ ghost use Rattle.std.specs.Prelude.{codes, length, slice_index, string_bytes};
 ghost use Rattle.std.specs.Fmt.{decimal};
 ghost use Rattle.std.specs.List.{flat_map};
 ghost use Rattle.ce_angle.specs.LowestTerms.{in_lowest_terms};
+ghost use Rattle.ce_orbit.specs.Iterates.{most_places};
 ghost use Rattle.ce_orbit.specs.Symbols.{symbol_text};
 ghost use Rattle.ce_port.specs.Pieces.{GrewAllBut};
 ghost use Rattle.ce_port.specs.WriteAll.{GrewByPrefix};
@@ -148,7 +149,7 @@ fn write_column<O: Sink>(
 ) -> Result<(), Status>
     requires rows { rows.now.list ≡ rows_of_orbit orbit.now }
     requires place { j < length orbit.now.places }
-    requires few { j < 128 }
+    requires few { j < most_places }
     requires other { length orbit.now.places ≢ 1 }
     ensures done { OnOk result (GrewAllBut (O.taken out.old) (O.taken out.new)
         (string_bytes page.new)

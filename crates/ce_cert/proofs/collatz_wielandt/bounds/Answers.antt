@@ -1,5 +1,6 @@
 use Rattle.std.proofs.Common.{arith}
-use Rattle.ce_cert.proofs.BoundsOf.{shown, below, low_is, low_rank_is, low_small, high_is, high_vector, above, certificate}
+use Rattle.ce_cert.proofs.BoundsOf.{shown, below, low_is, low_rank_is, low_small, high_is, high_vector, above}
+use Rattle.ce_cert.proofs.BoundsOf.{certificate}
 use Rattle.ce_cert.proofs.collatz_wielandt.bounds.Goals as goal
 
 pub best_rank-low_rank-requires-clause-some : goal.best_rank-low_rank-requires-clause-some

@@ -1,6 +1,7 @@
-use Rattle.std.proofs.Common.{◌<◌, ◌∙◌, Some, length, get_or, drop, true, false, arith, sym, refl, ap}
+use Rattle.std.proofs.Common.{◌<◌, ◌∙◌, Some, length, get_or, drop, false, arith, sym, refl, ap}
 use Rattle.ce_map.specs.DigitsInside.{digits_front, in_range}
-use Rattle.ce_map.proofs.Scanning.{head_no_digit, head_positive, head_zero, one_digit, zero_byte, other_byte, found_along}
+use Rattle.ce_map.proofs.Scanning.{head_no_digit, head_positive, head_zero, one_digit, zero_byte, other_byte}
+use Rattle.ce_map.proofs.Scanning.{found_along}
 use Rattle.ce_map.proofs.digits.number.Goals as goal
 
 pub returns-then-first-radix : goal.returns-then-first-radix

@@ -1,4 +1,5 @@
-use Rattle.std.proofs.Common.{◌≡◌, ◌≢◌, ◌<◌, ◌∙◌, ℕ, Option, Some, false, cond, Result, Ok, Err, [], refl, length, get_or, sym, ap, arith}
+use Rattle.std.proofs.Common.{◌≡◌, ◌≢◌, ◌<◌, ◌∙◌, ℕ, Option, Some, false, cond, Result, Ok, Err, [], refl, length}
+use Rattle.std.proofs.Common.{get_or, sym, ap, arith}
 use Rattle.std.specs.BTreeMap.{get}
 use Rattle.std.specs.Ordering.{is_eq}
 use Rattle.std.specs.Prelude.{OnOk}
@@ -9,7 +10,8 @@ use Rattle.ce_orbit.specs.declared.key.KneadKey.{KneadKey}
 use Rattle.ce_sweep.proofs.Known.{index-known, index-new}
 use Rattle.ce_sweep.proofs.Numbered.{numbered-known, numbered-new, more-length}
 use Rattle.ce_sweep.proofs.numbering.number_keys.Goals as goal
-use Rattle.ce_sweep.proofs.numbering.number_keys.Goals.{in-Some+in_ok-push-in-Some, in-None+else-is_err+in_ok-push-in-None+in_ok-push-in-None-2}
+use Rattle.ce_sweep.proofs.numbering.number_keys.Goals.{in-Some+in_ok-push-in-Some}
+use Rattle.ce_sweep.proofs.numbering.number_keys.Goals.{in-None+else-is_err+in_ok-push-in-None+in_ok-push-in-None-2}
 
 on_ok : {T E : Type 0} (r : Result T E) (P : Type 0) → false ≡ is_err r → OnOk r P → P
 on_ok (Ok x) P no_error h = h

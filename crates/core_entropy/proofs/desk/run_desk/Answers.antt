@@ -1,5 +1,4 @@
-use Rattle.std.proofs.Common.{◌∙◌, map, refl, string_bytes, sym, subst}
-use Rattle.ce_command.specs.declared.command.Command.{Command}
+use Rattle.std.proofs.Common.{◌∙◌, map, string_bytes, sym, subst}
 use Rattle.core_entropy.proofs.DeskTask.{asks_any, known_exponent, none_served, refused_memory, served_as}
 use Rattle.core_entropy.proofs.DeskTask.{served_headline}
 use Rattle.core_entropy.specs.Desk.{HasRunDesk}
@@ -24,7 +23,7 @@ returns-in-Ok-clause-headline g c = λ rounds workers exponent asks.
         part = e.part;
         too_long = e.too_long;
         answered = e.answered;
-        answered_ahead = e.answered_ahead;
+        answered_all = e.answered_all;
         read_fault = e.read_fault;
         write_fault = e.write_fault;
         read = e.read;
@@ -47,7 +46,7 @@ returns-in-Ok-clause-served g c = λ rounds workers exponent asks.
         part = e.part;
         too_long = e.too_long;
         answered = e.answered;
-        answered_ahead = e.answered_ahead;
+        answered_all = e.answered_all;
         read_fault = e.read_fault;
         write_fault = e.write_fault;
         read = e.read;

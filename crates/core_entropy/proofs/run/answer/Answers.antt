@@ -1,5 +1,4 @@
 use Rattle.std.proofs.Common.{ap, map, string_bytes, Err}
-use Rattle.ce_command.specs.declared.words.WordsError.TheVariants as words
 use Rattle.core_entropy.specs.Status.{of_words}
 use Rattle.core_entropy.specs.Table.{task_asked}
 use Rattle.core_entropy.proofs.DeskTask.{any_desk}

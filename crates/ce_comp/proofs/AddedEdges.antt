@@ -1,6 +1,6 @@
 -- One more edge between components, and the edges of one more vertex.
-use Rattle.std.proofs.Common.{◌≡◌, ◌+◌, ◌<◌, ◌≤◌, ◌++◌, ◌∷◌, [], ◌∙◌, ℕ, List, length, get_or, inl, inr, refl, sym}
-use Rattle.std.proofs.Common.{ap, subst, arith}
+use Rattle.std.proofs.Common.{◌≡◌, ◌+◌, ◌<◌, ◌≤◌, ◌++◌, ◌∷◌, [], ◌∙◌, ℕ, List, length, get_or, inl, inr, refl, ap}
+use Rattle.std.proofs.Common.{subst, arith}
 use Rattle.std.specs.List.{All, Contains}
 use Rattle.std.proofs.lemmas.Bool.{cases_lt}
 use Rattle.std.proofs.lemmas.List.{get_or_append_left, get_or_push, length_push}
@@ -25,52 +25,54 @@ module _ (list : List Row) (of_vertex sources targets more_sources more_targets 
     pub keeps : (a b : ℕ) → IsListed sources targets a b → IsListed more_sources more_targets a b
     pub here : IsListed more_sources more_targets c d
 
+module _ (list : List Row) (of_vertex sources targets : List ℕ) where
   pushed : (c d : ℕ) → AreSome list of_vertex sources targets → IsEdge list of_vertex c d
-      → more_sources ≡ sources ++ c ∷ [] → more_targets ≡ targets ++ d ∷ [] → IsMore c d
-  pushed c d old edge from to =
+      → IsMore list of_vertex sources targets (sources ++ c ∷ []) (targets ++ d ∷ []) c d
+  pushed c d old edge =
       let same = old.each in
-      let long_from = ap (λ (xs : List ℕ). length xs) from ∙ length_push sources c in
-      let long_to = ap (λ (xs : List ℕ). length xs) to ∙ length_push targets d in
-      let from_left : (k : ℕ) → k < length sources → get_or more_sources k 0 ≡ get_or sources k 0 =
-      λ k less. ap (λ (xs : List ℕ). get_or xs k 0) from ∙ get_or_append_left sources (c ∷ []) 0 k less in
-      let to_left : (k : ℕ) → k < length sources → get_or more_targets k 0 ≡ get_or targets k 0 =
-      λ k less. ap (λ (xs : List ℕ). get_or xs k 0) to ∙ get_or_append_left targets (d ∷ []) 0 k (omega arith) in
-      let from_last : (k : ℕ) → length sources ≡ k → get_or more_sources k 0 ≡ c =
-      λ k last. ap (λ (xs : List ℕ). get_or xs k 0) from ∙ get_or_push sources c 0 k last in
-      let to_last : (k : ℕ) → length sources ≡ k → get_or more_targets k 0 ≡ d =
-      λ k last. ap (λ (xs : List ℕ). get_or xs k 0) to ∙ get_or_push targets d 0 k (same ∙ last) in
+      let long_from = length_push sources c in
+      let long_to = length_push targets d in
       record {
         some = record {
           each = omega arith;
           are = λ k less. elim (cases_lt k (length sources)) [
-            | inl before ↦ subst (λ m. IsEdge list of_vertex m (get_or more_targets k 0)) (sym (from_left k before))
-                (subst (λ m. IsEdge list of_vertex (get_or sources k 0) m) (sym (to_left k before)) (old.are k before))
-            | inr past ↦
-                let last : length sources ≡ k = omega arith in
-                subst (λ m. IsEdge list of_vertex m (get_or more_targets k 0)) (sym (from_last k last))
-                (subst (λ m. IsEdge list of_vertex c m) (sym (to_last k last)) edge)
+            | inl before ↦ rw (
+              get_or_append_left sources (c ∷ []) 0 k before,
+              get_or_append_left targets (d ∷ []) 0 k (omega arith),
+            ) (old.are k before)
+            | inr past ↦ rw (get_or_push sources c 0 k (omega arith), get_or_push targets d 0 k (omega arith)) edge
           ];
         };
         long = omega arith;
         keeps = λ a b listed. elim listed [
           | inl one ↦ inl one
-          | inr (k, less, k_from, k_to) ↦ inr (k, omega arith, from_left k less ∙ k_from, to_left k less ∙ k_to)
+          | inr (k, less, k_from, k_to) ↦ inr (
+            k,
+            omega arith,
+            get_or_append_left sources (c ∷ []) 0 k less ∙ k_from,
+            get_or_append_left targets (d ∷ []) 0 k (omega arith) ∙ k_to,
+          )
         ];
-        here = inr (length sources, omega arith, from_last (length sources) refl, to_last (length sources) refl);
+        here = inr (
+          length sources,
+          omega arith,
+          get_or_push sources c 0 (length sources) refl,
+          get_or_push targets d 0 (length sources) same,
+        );
       }
 
+module _ (list : List Row) (of_vertex sources targets more_sources more_targets : List ℕ) where
   pub added : (x y : ℕ) → AreSome list of_vertex sources targets → x < length list → Contains (successors_in list x) y
       → IsAdded sources targets more_sources more_targets (get_or of_vertex x 0) (get_or of_vertex y 0)
-      → IsMore (get_or of_vertex x 0) (get_or of_vertex y 0)
+      → IsMore list of_vertex sources targets more_sources more_targets (get_or of_vertex x 0) (get_or of_vertex y 0)
   added x y old within edge (inl (one, from, to)) = record {
     some = rw (from, to) old;
     long = let long = ap (λ (xs : List ℕ). length xs) from in omega arith;
     keeps = λ a b listed. rw (from, to) listed;
     here = inl one;
   }
-  added x y old within edge (inr (apart, from, to)) =
-      pushed (get_or of_vertex x 0) (get_or of_vertex y 0) old
-      (record {
+  added x y old within edge (inr (apart, from, to)) = rw (from, to)
+      (pushed list of_vertex sources targets (get_or of_vertex x 0) (get_or of_vertex y 0) old (record {
         source = x;
         target = y;
         within = within;
@@ -78,7 +80,7 @@ module _ (list : List Row) (of_vertex sources targets more_sources more_targets 
         of_source = refl;
         of_target = refl;
         apart = apart;
-      }) from to
+      }))
 
 module _ (list : List Row) (of_vertex : List ℕ) where
   -- the vertices below v have all their edges, and those of v are known
@@ -138,5 +140,4 @@ module _ (g : Condensation) (h : IsCondensation g) (sources targets : List ℕ)
       let to = e.of_target in
       let inside : e.target < length g.list = All-contains (λ y. y < length g.list) (successors_in g.list e.source)
       e.target (target_below g h e.source e.within) e.edge in
-      let below = part_below g h e.target inside in
-      omega arith)
+      omega (arith, part_below g h e.target inside))

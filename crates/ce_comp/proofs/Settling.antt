@@ -101,8 +101,7 @@ changed_but first numbers left ready x m within some h = record {
   not_in = λ k d less same.
       let r = h.are k d less in
       let none = r.none in
-      let e = ap (λ u. get_or left u 0) (h.firsts_apart x r.component within r.within (same ∙ sym r.is_first)) in
-      omega arith;
+      omega (arith, ap (λ u. get_or left u 0) (h.firsts_apart x r.component within r.within (same ∙ sym r.is_first)));
   all = λ c less other c_open none. h.all c less c_open (sym (get_or-set_other left x c m 0 other) ∙ none);
 }
 

@@ -6,7 +6,7 @@ use Rattle.std.specs.Prelude.{◌≡◌, ⊤, ◌≤◌, length}
 use Rattle.ce_angle.specs.Fraction.{Fraction}
 use Rattle.ce_orbit.specs.Orbit.{ForwardOrbit, IsForwardOrbit, HasOrbitAbove}
 use Rattle.ce_thurston.specs.Indices.{rows_at}
-use Rattle.ce_solve.specs.SolvedRows.{Closing, IsSolved, closing_in}
+use Rattle.ce_solve.specs.SolvedRows.{AreReadingsFrom, Closing, IsSolved, closing_in}
 use Rattle.ce_solve.specs.declared.angle.Answer.{Answer}
 use Rattle.ce_solve.specs.declared.angle.SolveError.{SolveError}
 use Rattle.ce_solve.specs.declared.angle.SolveError.TheVariants.{OrbitTooLong, NoMemory}
@@ -18,6 +18,10 @@ abbrev pub IsSolutionFor : Settings → ForwardOrbit → Closing → Type 0
 IsSolutionFor settings o closing =
     IsSolved (rows_at o settings.scale) settings.rounds settings.turns settings.workers closing
 
+-- A closing has the readings of all sessions that the settings tell.
+abbrev pub HasReadingsOf : Settings → Closing → Type 0
+HasReadingsOf settings closing = AreReadingsFrom 0 settings.sessions settings.reads closing.readings
+
 -- A run on the rows of an angle's orbit, which has at most 128 angles, may end like this.
 pub record MaySolve (settings : Settings) (angle : Fraction) (closing : Closing) : Type 0 where
   pub orbit : ForwardOrbit
@@ -25,6 +29,7 @@ pub record MaySolve (settings : Settings) (angle : Fraction) (closing : Closing)
   pub is_orbit : IsForwardOrbit orbit
   pub few : length orbit.places ≤ most_places
   pub solution : IsSolutionFor settings orbit closing
+  pub readings : HasReadingsOf settings closing
 
 -- An answer is the angle's.
 pub record MayAnswer (settings : Settings) (asked : Fraction) (answer : Answer) : Type 0 where

@@ -3,8 +3,8 @@ ghost use Rattle.std.specs.Prelude.{◌≡◌, Err, IfOk};
 ghost use Rattle.std.specs.Result.{IfErr};
 ghost use Rattle.ce_orbit.specs.Orbit.{HasOrbitAbove};
 ghost use Rattle.ce_solve.specs.Limits.{AreWithinLimits};
-ghost use Rattle.ce_solve.specs.SolvedAngle.{IsCause, IsSolutionFor, MayAnswer};
-ghost use Rattle.ce_solve.specs.SolvedRows.{AreReadingsFrom, closing_in};
+ghost use Rattle.ce_solve.specs.SolvedAngle.{HasReadingsOf, IsCause, IsSolutionFor, MayAnswer};
+ghost use Rattle.ce_solve.specs.SolvedRows.{closing_in};
 ghost use Rattle.ce_orbit.specs.Iterates.{most_places};
 
 use crate::collecting::Solved;
@@ -43,8 +43,7 @@ fn solve_orbit<R: Threads + Sync, G: Gate + Sync>(
 ) -> Result<Solved, NoMemory>
     requires { AreWithinLimits settings.now }
     ensures solved { IfOk result (λ solved. IsSolutionFor settings.now orbit.now (closing_in solved)) }
-    ensures readings { IfOk result (λ solved. AreReadingsFrom 0 settings.now.sessions settings.now.reads
-        solved.readings.items) }
+    ensures readings { IfOk result (λ solved. HasReadingsOf settings.now (closing_in solved)) }
 {
     let rows = rows_of(alloc, orbit)?.with_scale(settings.scale);
     let told = Settings {
@@ -68,8 +67,6 @@ pub fn solve<R: Threads + Sync, G: Gate + Sync>(
 ) -> Result<Answer, SolveError>
     requires { AreWithinLimits settings.now }
     ensures answer { IfOk result (MayAnswer settings.now angle) }
-    ensures readings { IfOk result (λ answer. AreReadingsFrom 0 settings.now.sessions settings.now.reads
-        answer.solved.readings.items) }
     ensures cause { IfErr result (IsCause angle) }
     ensures long { HasOrbitAbove most_places angle → result ≡ Err SolveError.OrbitTooLong }
 {

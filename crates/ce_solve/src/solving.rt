@@ -85,6 +85,7 @@ pub fn hire(
     ensures sits { IfOk result (λ w. Sits board.now first.new) }
     ensures hired { IfOk result (IsHiredWorker board.now prepared.now.vector.items turns) }
     ensures part { IfOk result (λ w. (view w.seat).place.part ≡ part) }
+    ensures number { IfOk result (λ w. w.number ≡ k) }
 {
     let room = WorkRoom::new(alloc, &prepared.vector, prepared.bounds)?;
     let seat = board.split(first, part);

@@ -82,7 +82,8 @@ module _ (settings : Settings) (angles : List Fraction) (keys leaders : List Kne
         of_angle = key.of_angle;
         is_orbit = key.is_orbit;
         few = key.is_key.few;
-        solution = here key.orbit key.is_orbit key.is_key;
+        solution = here.serves key.orbit key.is_orbit key.is_key;
+        readings = here.readings;
       }
 
   pub solved_by : AreSolvedBy settings angles of first solutions

@@ -5,16 +5,16 @@ use Rattle.ce_orbit.specs.Kneading.{IsKeyOf}
 use Rattle.ce_orbit.specs.Orbit.{ForwardOrbit, IsForwardOrbit}
 use Rattle.ce_orbit.specs.declared.key.KneadKey.{KneadKey}
 use Rattle.ce_rows.specs.declared.no_memory.NoMemory.{NoMemory}
-use Rattle.ce_solve.specs.SolvedAngle.{IsSolutionFor}
+use Rattle.ce_solve.specs.SolvedAngle.{HasReadingsOf, IsSolutionFor}
 use Rattle.ce_solve.specs.SolvedRows.{closing_in}
 use Rattle.ce_solve.specs.declared.angle.Answer.{Answer}
 use Rattle.ce_solve.specs.declared.collecting.Solved.{Solved}
 use Rattle.ce_solve.specs.declared.settings.Settings.{Settings}
 
--- What a run by a key gives serves each orbit with this key.
-abbrev pub SolvesKey : Settings → KneadKey → Solved → Type 0
-SolvesKey settings key solved = (o : ForwardOrbit) → IsForwardOrbit o → IsKeyOf o key
-    → IsSolutionFor settings o (closing_in solved)
+-- What a run by a key gives serves each orbit with this key, and has all readings.
+pub record SolvesKey (settings : Settings) (key : KneadKey) (solved : Solved) : Type 0 where
+  pub serves : (o : ForwardOrbit) → IsForwardOrbit o → IsKeyOf o key → IsSolutionFor settings o (closing_in solved)
+  pub readings : HasReadingsOf settings (closing_in solved)
 
 abbrev pub MaySolveKey : Settings → KneadKey → Result Solved NoMemory → Type 0
 MaySolveKey settings key result = IfOk result (SolvesKey settings key)

@@ -8,10 +8,8 @@ pub settle-requires-clause-some : goal.settle-requires-clause-some
 settle-requires-clause-some c =
     let sources = c.args.edges.now.sources.items in
     let e = c.loop-edge.edge in
-    let ok = c.args.edges.now.sources.ok.0 in
-    let len = c.len.ensures in
-    let test = c.loop-edge-test.true in
-    let less : e < length sources = omega arith in
+    let less : e < length sources =
+    omega (arith, c.args.edges.now.sources.ok.0, c.len.ensures, c.loop-edge-test.true) in
     let same : c.index.result.now ≡ get_or sources e 0 = c.index.ensures
     ∙ get_or_default sources e c.index.result.now 0 less in
     subst (λ m. 0 < get_or c.loop-edge.self.left.items m 0) (sym same)
@@ -22,10 +20,8 @@ pub settle-requires-clause-open_yet : goal.settle-requires-clause-open_yet
 settle-requires-clause-open_yet c =
     let sources = c.args.edges.now.sources.items in
     let e = c.loop-edge.edge in
-    let ok = c.args.edges.now.sources.ok.0 in
-    let len = c.len.ensures in
-    let test = c.loop-edge-test.true in
-    let less : e < length sources = omega arith in
+    let less : e < length sources =
+    omega (arith, c.args.edges.now.sources.ok.0, c.len.ensures, c.loop-edge-test.true) in
     let same : c.index.result.now ≡ get_or sources e 0 = c.index.ensures
     ∙ get_or_default sources e c.index.result.now 0 less in
     subst (λ m. length c.args.first.now ≤ get_or c.loop-edge.self.numbers.items m 0) (sym same)
@@ -37,10 +33,8 @@ pub loop-edge-preserved : goal.loop-edge-preserved
 loop-edge-preserved c =
     let sources = c.args.edges.now.sources.items in
     let e = c.loop-edge.edge in
-    let ok = c.args.edges.now.sources.ok.0 in
-    let len = c.len.ensures in
-    let test = c.loop-edge-test.true in
-    let less : e < length sources = omega arith in
+    let less : e < length sources =
+    omega (arith, c.args.edges.now.sources.ok.0, c.len.ensures, c.loop-edge-test.true) in
     let done = c.in_ok-settle.ensures in
     let numbered = subst (λ ns. get_or ns c.args.component 0 < length c.args.first.now)
     (sym c.loop-edge.invariant.numbers) c.requires.numbered in
@@ -52,9 +46,6 @@ loop-edge-preserved c =
     record { numbers = done.numbers ∙ c.loop-edge.invariant.numbers; into = next.into_too; settling = next.settling }
 
 pub returns-clause-settled : goal.returns-clause-settled
-returns-clause-settled c =
-    let ok = c.args.edges.now.sources.ok.0 in
-    let len = c.len.ensures in
-    let test = c.loop-edge-test.false in
-    settled_all c.args.first.now c.args.edges.now.sources.items c.args.edges.now.targets.items
-    (standing c.loop-edge.self) c.args.component c.loop-edge.edge c.loop-edge.invariant.settling (omega arith)
+returns-clause-settled c = settled_all c.args.first.now c.args.edges.now.sources.items c.args.edges.now.targets.items
+    (standing c.loop-edge.self) c.args.component c.loop-edge.edge c.loop-edge.invariant.settling
+    (omega (arith, c.args.edges.now.sources.ok.0, c.len.ensures, c.loop-edge-test.false))

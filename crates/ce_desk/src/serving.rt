@@ -2,7 +2,7 @@
 ghost use Rattle.ce_solve.specs.Limits.{most_workers};
 ghost use Rattle.std.specs.Prelude.{◌≡◌, ◌≢◌, ◌<◌, ◌≤◌, [], ℕ, List, false, IfOk, Result, Err, length};
 ghost use Rattle.std.specs.Prelude.{vec_capacity};
-ghost use Rattle.std.specs.Option.{IfSome};
+ghost use Rattle.std.specs.Option.{IfNone, IfSome};
 ghost use Rattle.ce_port.specs.Sink.{Rose};
 ghost use Rattle.ce_desk.specs.Actors.{IsSession};
 ghost use Rattle.ce_desk.specs.Cases.{AreFirsts, AreOpenSlots};
@@ -156,7 +156,8 @@ fn stopped_early<S: Source, O: Sink>(talk: Talk<S, O>, fault: Fault) -> DeskEnd<
 
 // The fault that ended the opening, if one did.
 fn fault_of(next: &Result<usize, TalkEnd>) -> Option<Fault>
-    ensures { IfSome result (λ fault. next.now ≡ Err (Failed fault)) }
+    ensures fault { IfSome result (λ fault. next.now ≡ Err (Failed fault)) }
+    ensures none { IfNone result ((fault : Fault) → next.now ≢ Err (Failed fault)) }
 {
     match next {
         Err(TalkEnd::Fault(fault)) => Some(*fault),

@@ -23,7 +23,7 @@ returns-in-Some g c = λ source out begun.
     (at_start g.S.Source.left g.S.Source.faults g.O.Sink.taken g.O.Sink.faults source out) []
     (none_open slots.cases.items slots.firsts.items slots.workers.items none.0 none.1 none.2) begun in
     c.stopped_early-in-Some.ensures c.args.settings.now.rounds c.args.settings.now.scale source out
-    (early_desk opened.0) c.open_all-next.result refl (inl c.in-Some.ensures) opened.2
+    (early_desk opened.0) c.open_all-next.result refl (inl c.in-Some.ensures.fault) opened.2
 
 pub hire_and_run-requires-clause-opened : goal.hire_and_run-requires-clause-opened
 hire_and_run-requires-clause-opened g c lifetimes outlive =

@@ -5,10 +5,10 @@ use Rattle.std.proofs.lemmas.Bool.Decides.{nat_tests}
 use Rattle.ce_angle.specs.Fraction.{Fraction, IsAngle}
 use Rattle.ce_angle.proofs.Unique.{lowest_terms_unique}
 
-cmp-same : (x : ℕ) → nat_cmp x x ≡ Equal
+pub cmp-same : (x : ℕ) → nat_cmp x x ≡ Equal
 cmp-same x = grind (arith, nat_tests)
 
-same-cmp : (x y : ℕ) → nat_cmp x y ≡ Equal → x ≡ y
+pub same-cmp : (x y : ℕ) → nat_cmp x y ≡ Equal → x ≡ y
 same-cmp x y h = grind (arith, nat_tests)
 
 pub same_or_not : (f g : Fraction) (left right : ℕ) (order : Ordering) → IsAngle f → IsAngle g → left ≡ f.num * g.den

@@ -60,9 +60,6 @@ module _ (order a b c d : ℕ) (unit : b * c ≡ a * d + 1) (some : 0 < b) (othe
   pub num_fits : a ≤ (order + b) / d * c
   num_fits = num-fits a b c d ((order + b) / d) unit some (let fits = den-fits in omega arith)
 
-  pub den_fits : b ≤ (order + b) / d * d
-  den_fits = let fits = den-fits in omega arith
-
   pub next_is : IsNext order a b c d ((order + b) / d * c - a) ((order + b) / d * d - b)
   next_is =
       let low = count-low in

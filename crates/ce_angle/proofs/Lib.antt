@@ -3,7 +3,8 @@ pub mod Reduced
 pub mod Unique
 pub mod FareySteps
 pub mod FareyList
-mod Compared
+pub mod Compared
 pub mod OneList
+pub mod Cuts
 pub mod Numbers
 pub mod ReadBack

@@ -1,5 +1,5 @@
 -- A number below 2^32 has one spelling, its digits in decimal.
-use Rattle.std.proofs.Common.{◌≡◌, ◌≢◌, ◌<◌, ◌≤◌, ◌^◌, ℕ, zero, suc, Bool, true, false, cond, List, All, length}
+use Rattle.std.proofs.Common.{◌≡◌, ◌≢◌, ◌<◌, ◌≤◌, ◌^◌, ℕ, zero, suc, Bool, true, false, cond, List, length}
 use Rattle.std.proofs.Common.{get_or, Some, None, refl, sym, ap, ◌∙◌, arith, rules}
 use Rattle.std.specs.Char.{is_ascii_digit}
 use Rattle.std.specs.Fmt.{decimal}
@@ -10,6 +10,7 @@ use Rattle.std.proofs.lemmas.Fmt.{decimal-digits_value, digits_value-decimal, di
 use Rattle.std.proofs.lemmas.Fmt.{decimal_nonempty, first_decimal, length-decimal-le}
 use Rattle.std.proofs.lemmas.List.Elements.{All-from_get_or}
 use Rattle.std.proofs.lemmas.Str.Parse.{IsNumeralModel, numerals_by_value, digits_value_short, not_in_digits}
+use Rattle.ce_angle.specs.Cuts.{Lacks}
 use Rattle.ce_angle.specs.Typed.{is_number, number_of}
 
 digit_lists : IsNumeralModel (λ ds. list_all is_ascii_digit ds ≡ true) (digits_value 10)
@@ -68,7 +69,7 @@ number_of-decimal value small =
     ∙ ap Some (digits_value-decimal digit_lists value (omega arith))
 
 -- a spelling has digits alone
-pub decimal_lacks : (byte value : ℕ) → byte < 48 → value < 2 ^ 32 → All (λ other. other ≢ byte) (decimal value)
+pub decimal_lacks : (byte value : ℕ) → byte < 48 → value < 2 ^ 32 → Lacks byte (decimal value)
 decimal_lacks byte value low small =
     let digits = digits_decimal digit_lists value (omega arith) in
     All-from_get_or (λ other. other ≢ byte) (decimal value) 0

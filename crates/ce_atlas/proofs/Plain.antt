@@ -14,7 +14,7 @@ use Rattle.csv.specs.Writing.{default_writer, field_text, fields_text, is_blank,
 use Rattle.ce_angle.specs.Fraction.{Fraction, IsAngle}
 use Rattle.ce_angle.specs.Spelled.{fraction_text}
 use Rattle.ce_atlas.specs.Table.{after_spaces, line_of, names, spaced}
-use Rattle.ce_atlas.specs.Writing.{IsPlain, IsPlainByte}
+use Rattle.ce_atlas.specs.WritingInside.{IsPlain, IsPlainByte}
 
 no_quote : (b : ℕ) → IsPlainByte b → needs_byte default_writer b ≡ false
 no_quote b (inl h) =

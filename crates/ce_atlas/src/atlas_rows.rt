@@ -8,6 +8,7 @@ ghost use Rattle.ce_atlas.specs.Atlas.{AreRowsOf, EnclosesClass, IsAtlas, IsRowO
 ghost use Rattle.ce_atlas.specs.AtlasInside.{AreFirstRows};
 ghost use Rattle.ce_atlas.specs.InternalAddress.{most_entry};
 ghost use Rattle.ce_orbit.specs.Iterates.{most_places};
+ghost use Rattle.ce_rows.specs.Limits.{greatest_order};
 
 use crate::class_sizes::class_sizes;
 use crate::count_below::{count_below, sorted_highs};
@@ -118,7 +119,7 @@ pub fn atlas<R: Threads + Sync, G: Gate + Sync>(
     gate: &G,
 ) -> Result<Vec<ClassRow>, NoMemory>
     requires some { 0 < order }
-    requires few { order ≤ 128 }
+    requires few { order ≤ greatest_order }
     requires settings { AreWithinLimits settings }
     ensures rows { IfOk result (λ rows. IsAtlas settings order rows.items) }
     ensures enclose { IfOk result (λ rows. All (EnclosesClass settings.scale) rows.items) }

@@ -4,7 +4,7 @@ ghost use Rattle.std.specs.Prelude.{IfOk, OnOk};
 ghost use Rattle.ce_angle.specs.Spelled.{fraction_text};
 ghost use Rattle.ce_atlas.specs.InternalAddress.{most_entry};
 ghost use Rattle.ce_atlas.specs.Table.{after_spaces, fields_of_row, line_of, names, spaced, table_text};
-ghost use Rattle.ce_atlas.specs.Writing.{HasWritten, IsPlain};
+ghost use Rattle.ce_atlas.specs.WritingInside.{HasWritten, IsPlain};
 
 use crate::ClassRow;
 use ce_angle::Angle;

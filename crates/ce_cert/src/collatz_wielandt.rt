@@ -1,5 +1,5 @@
 // The Collatz-Wielandt bounds of a vector.
-ghost use Rattle.std.specs.Prelude.{◌≡◌, ◌*◌, ◌^◌, ◌<◌, ◌≤◌, ℕ, length, All, Contains, slice_index};
+ghost use Rattle.std.specs.Prelude.{◌≡◌, ◌*◌, ◌<◌, ◌≤◌, ℕ, length, All, Contains, slice_index};
 ghost use Rattle.ce_rows.specs.Blocks.{IsRanking};
 ghost use Rattle.ce_rows.specs.Rows.{AreScaledRows, IsLowerBoundOf, IsUpperBoundOf};
 ghost use Rattle.ce_cert.specs.Certificate.{IsCertificate, IsLowVector};

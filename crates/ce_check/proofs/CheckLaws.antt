@@ -89,7 +89,7 @@ item_flaw bytes line order exponent left item High h flaw = inl flaw
 item_flaw bytes line order exponent left item Count h flaw = absurd h
 item_flaw bytes line order exponent left item Tail h flaw = absurd h
 
-same_version : (v u : ℕ) → Parts v ≡ Parts u → v ≡ u
+pub same_version : (v u : ℕ) → Parts v ≡ Parts u → v ≡ u
 same_version v u h = cc
 
 pub starts : (order exponent : ℕ) (w : Walk) (angles left : List Fraction) → IsAfterHeader order exponent w

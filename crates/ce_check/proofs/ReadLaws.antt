@@ -1,7 +1,6 @@
 -- The numbers of a list, one after another.
 use Rattle.std.proofs.Common.{◌≡◌, ◌<◌, ◌+◌, ℕ, List, [], ◌∷◌, ◌++◌, length, get_or, set, take, drop, map, Option, Some}
-use Rattle.std.proofs.Common.{None, refl, sym, ap, subst, ◌∙◌, arith, add-one, drop-cons}
-use Rattle.std.proofs.Math.Seq.{take-length}
+use Rattle.std.proofs.Common.{None, sym, ap, subst, ◌∙◌, arith, add-one, drop-cons}
 use Rattle.std.proofs.lemmas.Option.{same_Some, none-some}
 use Rattle.std.proofs.lemmas.List.{get_or-map, length-map, take_more, take_more_set}
 use Rattle.ce_map.specs.Lists.{IsListOf}
@@ -40,15 +39,3 @@ module _ (change : ℕ → ℕ) (numbers left : Numbers) (count : ℕ) (room : L
         front = take_more_set room i x fits ∙ ap (λ l. l ++ x ∷ []) (read base list is long).front
             ∙ ap (λ y. take i (map change list) ++ y ∷ []) put ∙ sym (take_more (map change list) i 0 many);
       }
-
-pub read_all : (change : ℕ → ℕ) (numbers left : Numbers) (count : ℕ) (room : List ℕ) (i : ℕ)
-    → IsReadTo change numbers count left room i → i ≡ count → (base : ℕ) (list : List ℕ) → IsListOf base list numbers
-    → length list ≡ count → take count room ≡ map change list
-read_all change numbers left count room i read end base list is long =
-    let whole : count ≡ length (map change list) = omega (arith, length-map list change) in
-    ap (λ n. take n room) (sym end) ∙ (read base list is long).front ∙ ap (λ n. take n (map change list)) (end ∙ whole)
-    ∙ take-length (map change list)
-
-pub map_same : (list : List ℕ) → map (λ n. n) list ≡ list
-map_same [] = refl
-map_same (x ∷ xs) = ap (λ l. x ∷ l) (map_same xs)

@@ -8,6 +8,7 @@ ghost use Rattle.ce_check.specs.Verdicts.{IsVerdict};
 ghost use Rattle.ce_map.specs.Grammar.{Item};
 ghost use Rattle.ce_map.specs.Views.{IsShown, Shows};
 ghost use Rattle.ce_map.specs.declared.view.Stage.TheVariants as Stage;
+ghost use Rattle.ce_rows.specs.Limits.{greatest_order};
 
 use crate::item::angle_of;
 use crate::{Cause, CheckRoom, ItemFlaw, Verdict, check_item};
@@ -56,7 +57,7 @@ fn look_at(
     order: u32,
     scale: Scale,
 ) -> Result<Option<Cause>, NoMemory>
-    requires few { order ≤ 128 }
+    requires few { order ≤ greatest_order }
     requires next { IfSome next (IsAngleUpTo order) }
     requires shown { IsShown item.now }
     ensures { (version : ℕ) (shown : Item) → Shows version shown item.now

@@ -5,7 +5,7 @@ ghost use Rattle.ce_angle.specs.Fraction.{IsAngle};
 ghost use Rattle.ce_check.specs.GoodMap.{IsShortOrbitOf};
 ghost use Rattle.ce_check.specs.ItemsInside.{cut, IsFlawOfItem};
 ghost use Rattle.ce_check.specs.Verdicts.{IsItemVerdict};
-ghost use Rattle.ce_map.specs.Grammar.{Item, IsItem};
+ghost use Rattle.ce_map.specs.Grammar.{Item};
 ghost use Rattle.ce_map.specs.Lists.{IsListOf};
 ghost use Rattle.ce_map.specs.Views.{Shows};
 ghost use Rattle.ce_orbit.specs.Orbit.{ForwardOrbit};

@@ -1,4 +1,4 @@
-// The independent checker of map files.
+// The checker of map files.
 //
 // In come the bytes of a file; out comes that it is a good map, with the number of its items, or
 // its first flaw and the line of it. Rows are computed anew from each angle and the certificate is

@@ -1,6 +1,6 @@
 -- Commands from what is given.
-use Rattle.std.proofs.Common.{◌≡◌, ◌<◌, ◌+◌, ◌&&◌, ◌∷◌, ◌∙◌, ℕ, Bool, true, false, not, List, [], Bor, Option, Some}
-use Rattle.std.proofs.Common.{None, length, refl, sym, ap, ap₂, arith, map, option_map, slice_index_or, is_some, take}
+use Rattle.std.proofs.Common.{◌≡◌, ◌<◌, ◌+◌, ◌∷◌, ◌∙◌, ℕ, Bool, true, false, not, List, [], Bor, Option, Some}
+use Rattle.std.proofs.Common.{None, length, refl, sym, ap, arith, map, option_map, slice_index_or, is_some, take}
 use Rattle.std.specs.Prelude.{unwrap_or}
 use Rattle.std.proofs.Math.ListN.{get_or-map}
 use Rattle.std.proofs.lemmas.List.{length-map, take_more}
@@ -10,10 +10,8 @@ use Rattle.clap.specs.declared.parser.matches.ArgMatches.{ArgMatches}
 use Rattle.clap.proofs.WalkLemmas.{first_value-rows}
 use Rattle.ce_command.specs.Options.{Given, OptionForm, number_given, number_or, option_form}
 use Rattle.ce_command.specs.declared.options.NumberOption.{NumberOption}
-use Rattle.ce_command.specs.Form.{CommandForm}
-use Rattle.ce_command.specs.Meaning.{are_good, command_from, has_good_numbers, number_at, text_in}
-use Rattle.ce_command.specs.Reading.{given_by}
-use Rattle.ce_command.specs.declared.command.Command.{Command}
+use Rattle.ce_command.specs.Meaning.{are_good, text_in}
+use Rattle.ce_command.specs.ReadingInside.{given_by}
 
 -- what `get_str` answers is what is given
 pub word_given : (matches : ArgMatches) (id : Text) (word : Option (Bor Text))
@@ -53,24 +51,6 @@ pub bad_here : (given : Given) (options : List OptionForm) (k : ℕ) (d : Option
     → is_some (number_given given (slice_index_or options k d)) ≡ false → are_good given options ≡ false
 bad_here given options k d within here = list_all_at (λ (o : OptionForm). is_some (number_given given o)) options k d
     within here
-
--- the command that is made, or none
-pub made_of : (form : CommandForm) (given : Given) (made : Command) → has_good_numbers form given ≡ true
-    → made ≡ form.command (text_in given) (number_at given)
-    → Some made ≡ command_from form given
-made_of form given made good is = rw (good, is) refl
-
-pub none_of : (form : CommandForm) (given : Given) → has_good_numbers form given ≡ false
-    → None ≡ command_from form given
-none_of form given bad = rw bad refl
-
--- the same numbers by the row and by the form
-pub same_numbers : (form : CommandForm) (given : Given) (numbers options : List OptionForm) (a b : Bool)
-    → numbers ≡ form.numbers → options ≡ form.options
-    → a ≡ are_good given numbers → b ≡ are_good given options → (a && b) ≡ has_good_numbers form given
-same_numbers form given numbers options a b first second one two =
-    let tests : Bool → Bool → Bool = λ x y. x && y in
-    ap₂ tests (one ∙ ap (are_good given) first) (two ∙ ap (are_good given) second)
 
 -- the same of options of the code
 module _ (given : Given) (options : List NumberOption) (k : ℕ) (d : NumberOption) (r : Option ℕ) (none : Bool)

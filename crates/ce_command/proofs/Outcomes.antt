@@ -5,7 +5,7 @@ use Rattle.std.specs.Prelude.{if◌then◌else◌, IsTrue, Result, Err, option_a
 use Rattle.clap.specs.Words.{Text}
 use Rattle.ce_command.specs.Table.{NameCommand, form_of}
 use Rattle.ce_command.specs.Meaning.{AreTaken, command_by, command_of, given_to, has_good_numbers, name_of}
-use Rattle.ce_command.specs.Reading.{IsNoCommand, MeansBy}
+use Rattle.ce_command.specs.ReadingInside.{IsNoCommand, MeansBy}
 use Rattle.ce_command.specs.Plain.{IsPlain, PlainWords, given_plainly, spelled}
 use Rattle.ce_command.specs.declared.command.CommandName.{CommandName}
 use Rattle.ce_command.specs.declared.command.Command.{Command}

@@ -18,7 +18,7 @@ use Rattle.ce_command.specs.Table.{count, degree, first, fraction, from, order, 
 use Rattle.ce_command.specs.Table.{start, to, turns, workers}
 use Rattle.ce_command.specs.Meaning.{command_by, command_from, command_of, given_in, has_good_numbers, name_of}
 use Rattle.ce_command.specs.Meaning.{number_at, text_in}
-use Rattle.ce_command.specs.Reading.{MeansBy}
+use Rattle.ce_command.specs.ReadingInside.{MeansBy}
 use Rattle.ce_command.specs.declared.options.Numbers.{Numbers}
 use Rattle.ce_command.specs.declared.options.Numbers.TheVariants.{Between, Exponents}
 use Rattle.ce_command.specs.declared.command.CommandName.{CommandName}

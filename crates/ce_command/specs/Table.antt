@@ -4,6 +4,7 @@ use Rattle.clap.specs.Words.{App, Text}
 use Rattle.ce_angle.specs.Fraction.{Fraction, IsAngle}
 use Rattle.ce_angle.specs.Typed.{angle_of_text}
 use Rattle.ce_angle.specs.declared.angle.AngleError.{AngleError}
+use Rattle.ce_rows.specs.Limits.{greatest_order, most_reads, most_rounds, most_sessions, most_turns, most_workers}
 use Rattle.ce_command.specs.Options.{IsNumberOf, OptionForm}
 use Rattle.ce_command.specs.Form.{CommandForm, app_of_form}
 use Rattle.ce_command.specs.declared.command.CommandName.{CommandName}
@@ -24,19 +25,19 @@ abbrev pub second : Text
 second = codes "second"
 
 abbrev pub rounds : OptionForm
-rounds = record { name = codes "rounds"; default = 36; numbers = Between 0 36 }
+rounds = record { name = codes "rounds"; default = most_rounds; numbers = Between 0 most_rounds }
 
 abbrev pub turns : OptionForm
-turns = record { name = codes "turns"; default = 400; numbers = Between 0 100000 }
+turns = record { name = codes "turns"; default = 400; numbers = Between 0 most_turns }
 
 abbrev pub workers : OptionForm
-workers = record { name = codes "workers"; default = 2; numbers = Between 1 16 }
+workers = record { name = codes "workers"; default = 2; numbers = Between 1 most_workers }
 
 abbrev pub sessions : OptionForm
-sessions = record { name = codes "sessions"; default = 1; numbers = Between 1 8 }
+sessions = record { name = codes "sessions"; default = 1; numbers = Between 1 most_sessions }
 
 abbrev pub reads : OptionForm
-reads = record { name = codes "reads"; default = 10; numbers = Between 1 1000 }
+reads = record { name = codes "reads"; default = 10; numbers = Between 1 most_reads }
 
 abbrev pub scale : OptionForm
 scale = record { name = codes "scale"; default = 32; numbers = Exponents }
@@ -58,7 +59,7 @@ abbrev pub degree : OptionForm
 degree = record { name = codes "degree"; default = 2; numbers = Between 2 16 }
 
 abbrev pub order : OptionForm
-order = record { name = codes "order"; default = 1; numbers = Between 1 128 }
+order = record { name = codes "order"; default = 1; numbers = Between 1 greatest_order }
 
 -- the options of a command that runs workers, also with sessions that look on, and of one without turns
 abbrev pub run : List OptionForm

@@ -3,7 +3,7 @@
 ghost use Rattle.std.specs.Prelude.{◌≡◌, map};
 ghost use Rattle.ce_command.specs.Meaning.{name_of, number_at, text_in};
 ghost use Rattle.ce_command.specs.Options.{option_form};
-ghost use Rattle.ce_command.specs.Reading.{given_by};
+ghost use Rattle.ce_command.specs.ReadingInside.{given_by};
 ghost use Rattle.ce_command.specs.Table.{form_of};
 
 use crate::options::{

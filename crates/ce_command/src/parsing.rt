@@ -1,11 +1,11 @@
 // Words by `clap`.
-ghost use Rattle.std.specs.Prelude.{◌≡◌, ◌≢◌, IfOk, map, string_bytes};
+ghost use Rattle.std.specs.Prelude.{◌≡◌, ◌≢◌, IfOk, fold, map, string_bytes};
 ghost use Rattle.clap.specs.Words.{app_of, kind_of};
-ghost use Rattle.ce_command.specs.Form.{app_with};
+ghost use Rattle.ce_command.specs.Form.{app_with, with_option, with_positional};
 ghost use Rattle.ce_command.specs.Options.{number_given, option_form};
 ghost use Rattle.ce_angle.specs.Typed.{angle_of_text};
 ghost use Rattle.ce_command.specs.Meaning.{are_good, number_at, text_in};
-ghost use Rattle.ce_command.specs.Reading.{ReadsBy, given_by};
+ghost use Rattle.ce_command.specs.ReadingInside.{ReadsBy, given_by};
 ghost use Rattle.ce_command.specs.Table.{app_named};
 
 use crate::command::CommandName;
@@ -16,8 +16,42 @@ use clap::error::ErrorKind;
 use clap::{Arg, ArgAction, ArgMatches};
 use std::alloc::{AllocError, Global};
 
-// What `clap` is told of a command with these words and options. Each positional word is required,
-// and each option takes one value. None of the flags of `clap` itself is there.
+// A command with positional words, each of which is required.
+fn with_positionals<'a>(
+    alloc: Global,
+    mut command: clap::Command<'a>,
+    positionals: &[&'a str],
+) -> Result<clap::Command<'a>, AllocError>
+    ensures { IfOk result (λ now. app_of now
+        ≡ fold with_positional (app_of command.entry) (map (λ id. id.now) positionals.now)) }
+{
+    for id in positionals {
+        let positional = Arg::new(alloc, *id).required(true).action(ArgAction::Set);
+        command = command.arg(positional)?;
+    }
+    Ok(command)
+}
+
+// A command with options, each of which takes one value.
+fn with_options<'a>(
+    alloc: Global,
+    mut command: clap::Command<'a>,
+    options: &[NumberOption],
+) -> Result<clap::Command<'a>, AllocError>
+    ensures { IfOk result (λ now. app_of now
+        ≡ fold with_option (app_of command.entry) (map option_form options.now)) }
+{
+    for option in options {
+        let argument = Arg::new(alloc, option.name)
+            .long(option.name)
+            .action(ArgAction::Set);
+        command = command.arg(argument)?;
+    }
+    Ok(command)
+}
+
+// What `clap` is told of a command with these words and options. None of the flags of `clap` itself
+// is there.
 fn described<'a>(
     alloc: Global,
     name: &'a str,
@@ -27,20 +61,11 @@ fn described<'a>(
     ensures { IfOk result (λ command. app_of command
         ≡ app_with name.now (map (λ id. id.now) positionals.now) (map option_form options.now)) }
 {
-    let mut command = clap::Command::new(alloc, name)
+    let bare = clap::Command::new(alloc, name)
         .disable_help_flag(true)
         .disable_version_flag(true);
-    for id in positionals {
-        let positional = Arg::new(alloc, *id).required(true).action(ArgAction::Set);
-        command = command.arg(positional)?;
-    }
-    for option in options {
-        let argument = Arg::new(alloc, option.name)
-            .long(option.name)
-            .action(ArgAction::Set);
-        command = command.arg(argument)?;
-    }
-    Ok(command)
+    let command = with_positionals(alloc, bare, positionals)?;
+    with_options(alloc, command, options)
 }
 
 // What `clap` is told of a command.

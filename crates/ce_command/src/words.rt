@@ -2,7 +2,7 @@
 ghost use Rattle.std.specs.Prelude.{◌≡◌, IfOk, IsTrue, Ok, Err, None, Some, map, string_bytes};
 ghost use Rattle.ce_command.specs.Meaning.{AreGood, command_of, has_good_numbers};
 ghost use Rattle.ce_command.specs.Plain.{IsPlain, PlainWords, given_plainly, spelled};
-ghost use Rattle.ce_command.specs.Reading.{MeansBy};
+ghost use Rattle.ce_command.specs.ReadingInside.{MeansBy};
 ghost use Rattle.ce_command.specs.Table.{IsWithinLimits, form_of};
 ghost use Rattle.ce_command.specs.declared.command.CommandName.{CommandName};
 

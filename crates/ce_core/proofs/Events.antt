@@ -1,7 +1,7 @@
 -- What one event does to the enclosure: the bounds still enclose and only narrow, and what each
 -- actor saw is still true.
-use Rattle.std.proofs.Common.{◌≡◌, ◌≤◌, ◌<◌, ◌^◌, ◌∙◌, ◌⊎◌, inl, inr, ℕ, Bool, true, false, min, max, List, []}
-use Rattle.std.proofs.Common.{length, get_or, refl, sym, subst, arith}
+use Rattle.std.proofs.Common.{◌≡◌, ◌≤◌, ◌<◌, ◌^◌, ◌∙◌, ◌⊎◌, inl, inr, ℕ, Bool, true, false, max, List, []}
+use Rattle.std.proofs.Common.{length, get_or, refl, arith}
 use Rattle.std.specs.Prelude.{if◌then◌else◌, ◌==◌, slice_set}
 use Rattle.std.proofs.lemmas.Bool.{cases_lt, eqb-true}
 use Rattle.std.proofs.lemmas.List.{length-set, set_past}
@@ -23,6 +23,7 @@ use Rattle.ce_rows.specs.Actors.{ActorState, actor_at_start, after_answer}
 use Rattle.ce_core.specs.Machine.{Machine, kept_by, carried, answer_to, after_event}
 use Rattle.ce_core.specs.Runs.{LiesWithin}
 use Rattle.ce_core.specs.Sound.{IsSoundActor, IsSound}
+use Rattle.ce_rows.proofs.General.{greater_of, lesser_of}
 
 -- A number from 1 to 2^60 goes to an entry.
 stored : (rows : ScaledRows) (v : List ℕ) (i x : ℕ) → IsVectorOf rows v → 1 ≤ x → x ≤ 2 ^ 60
@@ -45,18 +46,6 @@ copied rows v w i vector from =
           let same : slice_set v i (get_or w i 0) ≡ v =
           set_past v i (get_or w i 0) (omega (arith, vector.each, from.each)) in rw same vector
     ]
-
-greater_of : (P : ℕ → Type 0) (a b : ℕ) → P a → P b → P (max a b)
-greater_of P a b pa pb = elim (cases_lt a b) [
-  | inl less ↦ let same : max a b ≡ b = omega arith in subst P (sym same) pb
-  | inr most ↦ let same : max a b ≡ a = omega arith in subst P (sym same) pa
-]
-
-lesser_of : (P : ℕ → Type 0) (a b : ℕ) → P a → P b → P (min a b)
-lesser_of P a b pa pb = elim (cases_lt a b) [
-  | inl less ↦ let same : min a b ≡ a = omega arith in subst P (sym same) pa
-  | inr most ↦ let same : min a b ≡ b = omega arith in subst P (sym same) pb
-]
 
 -- the greater of a word that is 0 or 1 and of the number that a stop carries
 stop_word : (b : Bool) (stop : ℕ) → stop ≤ 1 → max stop (if b then 1 else 0) ≤ 1

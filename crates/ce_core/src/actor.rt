@@ -14,7 +14,7 @@ pub(crate) struct Actor {
 }
 
 impl Actor {
-    ghost use Rattle.std.specs.Prelude.{◌≡◌, ◌<◌, ◌≤◌, ◌-◌, ◌*◌, ◌^◌, length};
+    ghost use Rattle.std.specs.Prelude.{◌≡◌, ◌<◌, ◌-◌, ◌^◌, length};
     ghost use Rattle.ce_rows.specs.Blocks.{IsRanking};
     ghost use Rattle.ce_rows.specs.Events.{IsOnEntryBelow};
     ghost use Rattle.ce_rows.specs.declared.act.Act.TheVariants.{Asks, Relaxes};

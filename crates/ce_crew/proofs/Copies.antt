@@ -15,7 +15,7 @@ use Rattle.ce_rows.specs.declared.act.Act.{Act}
 use Rattle.ce_rows.specs.declared.act.Act.TheVariants.{Loads, Relaxes, Shrinks, LoadsLow, LoadsHigh, Raises, Lowers}
 use Rattle.ce_rows.specs.declared.act.Act.TheVariants.{LoadsShift, Asks, LoadsStop, Stops}
 use Rattle.ce_rows.specs.declared.act.LogEntry.{LogEntry}
-use Rattle.ce_rows.proofs.Images.{block_images_are}
+use Rattle.ce_rows.proofs.Images.{block_images_are, first_or_later}
 use Rattle.ce_crew.specs.MachineSteps.{acts_of}
 use Rattle.ce_crew.specs.Gains.{copy_by, copied}
 
@@ -119,10 +119,6 @@ loaded_agree (x ∷ es) e xs ys same inside (inl is) =
 loaded_agree (x ∷ es) e xs ys same inside (inr later) =
     loaded_agree es e (copy_by x.act x.answer xs) (copy_by x.act x.answer ys)
     (lengths_stay x.act x.answer xs ys same) (omega (arith, inside, length-copy_by x.act x.answer xs)) later
-
-first_or_later : (x : ℕ) (xs : List ℕ) (j : ℕ) → Contains (x ∷ xs) j → (x ≡ j) ⊎ Contains xs j
-first_or_later x xs j (zero, within, e) = inl e
-first_or_later x xs j (suc k, within, e) = inr (k, omega arith, e)
 
 pub any_of_loads : (js : List ℕ) (e : ℕ) → Contains js e → AnyLoads e (map (λ j. Loads j) js)
 any_of_loads [] e h = absurd (omega (arith, h.1))

@@ -1,7 +1,6 @@
 -- A worker's room: its private copy and its best vectors. Source: this project's choice.
-use Rattle.std.specs.Prelude.{◌≡◌, ℕ, ◌<◌, List, length, Contains}
-use Rattle.ce_cert.specs.Certificate.{IsLowVector, IsHighVector}
-use Rattle.ce_cert.specs.Quotients.{low_of, low_rank_of, high_of}
+use Rattle.std.specs.Prelude.{◌≡◌, ℕ, List, length}
+use Rattle.ce_cert.specs.Certificate.{AreBoundsIn}
 use Rattle.ce_cert.specs.declared.ends.Bounds.{Bounds}
 use Rattle.ce_cert.specs.Vectors.{IsVectorOf}
 use Rattle.ce_words.specs.Views.{rows_of}
@@ -9,17 +8,10 @@ use Rattle.ce_words.specs.declared.view.Run.{Run}
 use Rattle.ce_rows.specs.declared.act.LogEntry.{LogEntry}
 use Rattle.ce_crew.specs.Best.{IsBestLow, IsBestHigh}
 use Rattle.ce_crew.specs.declared.room.WorkRoom.{WorkRoom}
-use Rattle.ce_rows.specs.Limits.{number_limit}
 
--- Bounds are the Collatz-Wielandt bounds of a vector, which shows them: the low end within the low
--- rank, and the high end below 2^62.
-pub record AreBoundsOf (run : Run) (vector : List ℕ) (b : Bounds) : Type 0 where
-  pub low : b.low ≡ low_of (rows_of run) run.ranks vector
-  pub low_rank : b.low_rank ≡ low_rank_of (rows_of run) run.ranks vector
-  pub high : b.high ≡ high_of (rows_of run) run.ranks vector
-  pub occurs : Contains run.ranks b.low_rank
-  pub low_shown : IsLowVector (rows_of run) run.ranks b.low_rank vector b.low
-  pub high_shown : b.high < number_limit → IsHighVector (rows_of run) run.ranks vector b.high
+-- Bounds are those of a vector by the rows and ranks of a run.
+abbrev pub AreBoundsOf : Run → List ℕ → Bounds → Type 0
+AreBoundsOf run vector b = AreBoundsIn (rows_of run) run.ranks vector b
 
 -- A room as it is made from a vector with its bounds.
 pub record IsNewRoom (vector : List ℕ) (first : Bounds) (room : WorkRoom) : Type 0 where

@@ -12,8 +12,8 @@ ghost use Rattle.ce_crew.specs.Workers.{IsWorker};
 
 use crate::{WorkRoom, Worker};
 use ce_cert::{Bounds, bounds};
-use ce_rows::Row::{One, Two};
-use ce_rows::{Interval, NoMemory, Rows, RowsMaker, is_ranking};
+use ce_rows::Row::One;
+use ce_rows::{FIFTH, Interval, NoMemory, QUARTER, Rows, is_ranking};
 use ce_words::{Board, Part, Seat};
 use std::alloc::Global;
 use std::test::Fail;
@@ -22,34 +22,21 @@ use std::test::Fail;
 pub(crate) fn quarter(alloc: Global) -> Result<Rows, NoMemory>
     ensures { IfOk result (λ rows. length rows.list ≡ 3) }
 {
-    let mut maker = RowsMaker::new(alloc, 3)?;
-    maker.push(One(2));
-    maker.push(Two(0, 1));
-    maker.push(Two(1, 1));
-    Ok(maker.finish())
+    Rows::from_slice(alloc, &QUARTER)
 }
 
 // The rows of 1/5.
 pub(crate) fn fifth(alloc: Global) -> Result<Rows, NoMemory>
     ensures { IfOk result (λ rows. length rows.list ≡ 6) }
 {
-    let mut maker = RowsMaker::new(alloc, 6)?;
-    maker.push(One(2));
-    maker.push(Two(0, 3));
-    maker.push(Two(1, 3));
-    maker.push(One(0));
-    maker.push(One(1));
-    maker.push(One(3));
-    Ok(maker.finish())
+    Rows::from_slice(alloc, &FIFTH)
 }
 
 // The row of 1/3, which is its own successor.
 pub(crate) fn third(alloc: Global) -> Result<Rows, NoMemory>
     ensures { IfOk result (λ rows. length rows.list ≡ 1) }
 {
-    let mut maker = RowsMaker::new(alloc, 1)?;
-    maker.push(One(0));
-    Ok(maker.finish())
+    Rows::from_slice(alloc, &[One(0)])
 }
 
 // The board of a run, with its first seat.

@@ -1,8 +1,8 @@
 // The sweep of a turn over the worker's part of the vector.
-ghost use Rattle.std.specs.Prelude.{◌≡◌, ◌<◌, ◌≤◌, ◌^◌, ℕ, [], ◌∷◌, length, slice_index, slice_set};
+ghost use Rattle.std.specs.Prelude.{◌≡◌, ◌<◌, ◌≤◌, [], ◌∷◌, length};
 ghost use Rattle.std.specs.List.{flat_map};
 ghost use Rattle.ce_core.specs.Machine.{carried};
-ghost use Rattle.ce_rows.specs.declared.act.Act.TheVariants.{Loads, Relaxes};
+ghost use Rattle.ce_rows.specs.declared.act.Act.TheVariants.{Relaxes};
 ghost use Rattle.ce_words.specs.Logs.{in_part};
 ghost use Rattle.ce_words.specs.Seats.{board_run};
 ghost use Rattle.ce_words.specs.Views.{view, rows_of, kept, seen_low, seen_high};

@@ -1,11 +1,10 @@
 // What a turn does about entries that grow too great.
-ghost use Rattle.std.specs.Prelude.{◌≡◌, ◌<◌, ◌≤◌, ◌+◌, ◌^◌, ℕ, List, [], ◌∷◌, length, map, slice_index};
-ghost use Rattle.ce_core.specs.Machine.{carried};
+ghost use Rattle.std.specs.Prelude.{◌≡◌, ◌<◌, ◌≤◌, ◌+◌, ℕ, List, [], ◌∷◌, length, map, slice_index};
 ghost use Rattle.ce_rows.specs.declared.act.Act.TheVariants.{Shrinks, Asks};
 ghost use Rattle.ce_words.specs.Invariant.{most_rescalings};
 ghost use Rattle.ce_words.specs.Logs.{in_part};
 ghost use Rattle.ce_words.specs.Seats.{board_run, Sits};
-ghost use Rattle.ce_words.specs.Views.{view, rows_of, kept};
+ghost use Rattle.ce_words.specs.Views.{view, kept};
 ghost use Rattle.ce_crew.specs.Gains.{Gains, GainsRescaling, IsAtWork, IsRunStart, HasLoaded};
 ghost use Rattle.ce_crew.specs.Turn.{entries_between, rescalings_after};
 

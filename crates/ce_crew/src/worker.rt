@@ -1,9 +1,7 @@
 // A worker of a run.
-ghost use Rattle.std.specs.Prelude.{◌≡◌, ◌<◌, ◌≤◌, ℕ, List, [], true, false, length};
-ghost use Rattle.ce_cert.specs.declared.ends.Bounds.{Bounds};
-ghost use Rattle.ce_words.specs.Seats.{board_run, Sits};
-ghost use Rattle.ce_words.specs.Views.{view, kept};
-ghost use Rattle.ce_crew.specs.Gains.{IsRunStart, IsGraphOf};
+ghost use Rattle.std.specs.Prelude.{◌≡◌, ◌<◌, true, false};
+ghost use Rattle.ce_words.specs.Seats.{board_run};
+ghost use Rattle.ce_crew.specs.Gains.{IsGraphOf};
 
 use crate::opening::open;
 use crate::room::WorkRoom;
@@ -35,7 +33,7 @@ pub struct Worker {
 }
 
 impl Worker {
-    ghost use Rattle.ce_crew.specs.Workers.{IsWorker, IsBegun, HasTurned, HasHalted, Made, Ran, KeepsIts};
+    ghost use Rattle.ce_crew.specs.Workers.{IsWorker, IsBegun, Made, Ran, KeepsIts};
 
     /// A worker before its first turn. A worker holds no reference.
     pub fn new(room: WorkRoom, number: u32, turns: u32, part: Part, seat: Seat) -> Worker

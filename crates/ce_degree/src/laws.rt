@@ -9,7 +9,6 @@ ghost use Rattle.ce_rows.specs.Rows.{AreRows};
 ghost use Rattle.ce_thurston.specs.Indices.{rows_of_orbit};
 ghost use Rattle.ce_thurston.specs.Pairs.{pair_walks};
 ghost use Rattle.ce_thurston.specs.Portrait.{pairs_on, walks_on, AreDifferent, IsPairOn, HasPairsForImagesOn};
-ghost use Rattle.ce_thurston.specs.Portrait.{IsPortraitOrbit};
 ghost use Rattle.ce_thurston.specs.PortraitRows.{rows_on};
 ghost use Rattle.ce_degree.specs.Degree.{is_apart, IsDegree};
 ghost use Rattle.ce_degree.specs.DegreeOrbit.{portrait_of, OrbitOfDegree, IsOrbitOfDegree};
@@ -54,8 +53,8 @@ pub fn degree_orbits_are_unique()
         → HasOrbitAbove n o.degree o.angle ↔ (n < length o.places) }
 {}
 
-/// Degree 2 is angle doubling: the two preimages of the angle are the ends of its critical diameter,
-/// and pairs, walks and rows are those of the forward orbit.
+/// Degree 2 is angle doubling: the two preimages of the angle are the ends of its critical
+/// diameter, and pairs, walks and rows are those of the forward orbit.
 pub fn degree_two_is_doubling()
     ensures separated { (angle : Fraction) (x y : ℕ) → IsAngle angle → x < angle.den → y < angle.den
         → is_apart 2 angle x y ≡ is_separated angle x y }

@@ -2,9 +2,9 @@
 // successors.
 //
 // A `Degree` and an `Angle` come in, and a `DegreeOrbit` of at most 128 places and its `Rows` go
-// out. The critical portrait of the angle stands in specs/Degree.antt; pairs, images, walks and rows
-// are those of ce_thurston over any orbit with a portrait. The main fact is `degree_rows`': the walk
-// counts of the rows are those of the pairs.
+// out. The critical portrait of the angle stands in specs/Degree.antt; pairs, images, walks and
+// rows are those of ce_thurston over any orbit with a portrait. The main fact is `degree_rows`':
+// the walk counts of the rows are those of the pairs.
 #![tactic(auto)]
 
 mod degree;

@@ -10,7 +10,7 @@ use Rattle.ce_desk.proofs.Ended.{consumed_known}
 use Rattle.ce_desk.specs.Desk.{Desk}
 use Rattle.ce_desk.specs.Served.{AnsweredEach}
 use Rattle.ce_desk.specs.ServedInside.{at_start}
-use Rattle.ce_desk.specs.Talks.{Streams, streams, HasTalkedTo, HasEnded}
+use Rattle.ce_desk.specs.TalksInside.{Streams, streams, HasTalkedTo, HasEnded}
 use Rattle.ce_desk.specs.declared.talk.Fault.TheVariants.{InputTooLong, Read as ReadFault}
 use Rattle.ce_desk.specs.declared.talk.Talk.{Talk}
 use Rattle.ce_desk.specs.declared.talk.TalkEnd.TheVariants.{Fault as Failed}

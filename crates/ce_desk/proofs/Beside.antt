@@ -3,7 +3,7 @@ use Rattle.std.proofs.Common.{◌≡◌, ◌<◌, ◌+◌, ℕ, suc, List, ◌�
 use Rattle.std.proofs.Common.{ap, ◌∙◌, subst, arith}
 use Rattle.std.proofs.lemmas.List.{length-drop, get_or-drop}
 use Rattle.std.proofs.lemmas.List.{get_or_default}
-use Rattle.ce_desk.specs.Actors.{HasRun, HasRunSession, HaveRunCrews}
+use Rattle.ce_desk.specs.ActorsInside.{HasRun, HasRunSession, HaveRunCrews}
 use Rattle.ce_desk.specs.declared.actor.Actor.{Actor}
 use Rattle.ce_desk.specs.declared.actor.Actor.TheVariants.{Session as ASession, Crew as ACrew}
 use Rattle.ce_desk.specs.declared.case.Case.{Case}

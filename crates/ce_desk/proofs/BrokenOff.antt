@@ -12,7 +12,7 @@ use Rattle.ce_desk.specs.Desk.{Desk, empty_desk}
 use Rattle.ce_desk.specs.DeskText.{AreReplies, AllClose, IsDeskText, IsOpeningText, closing_text}
 use Rattle.ce_desk.specs.Served.{ServedSome}
 use Rattle.ce_desk.specs.ServedInside.{at_start}
-use Rattle.ce_desk.specs.Talks.{Streams, streams, HasTalkedTo, WasCutOff, HasEnded, IsNext}
+use Rattle.ce_desk.specs.TalksInside.{Streams, streams, HasTalkedTo, WasCutOff, HasEnded, IsNext}
 use Rattle.ce_desk.specs.declared.closing.Closing.{Closing}
 use Rattle.ce_desk.specs.declared.talk.Fault.{Fault}
 use Rattle.ce_desk.specs.declared.talk.Fault.TheVariants.{InputTooLong, Read as ReadFault, Write as WriteFault}

@@ -40,7 +40,7 @@ use Rattle.ce_words.specs.declared.view.Role.TheVariants.{Other}
 use Rattle.ce_words.specs.declared.view.Run.{Run}
 use Rattle.ce_words.specs.declared.view.View.{View}
 use Rattle.ce_desk.proofs.Reading.{readings_numbered, each_told}
-use Rattle.ce_desk.specs.Cases.{readings_from, IsFirstOf, IsDoneFor}
+use Rattle.ce_desk.specs.CasesInside.{readings_from, IsFirstOf, IsDoneFor}
 use Rattle.ce_desk.specs.Desk.{Slot}
 use Rattle.ce_desk.specs.DeskText.{Closes, HasTurns as HasTurnsMade}
 

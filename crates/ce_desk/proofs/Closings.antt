@@ -5,8 +5,8 @@ use Rattle.std.proofs.lemmas.List.{get_or-set_other, get_or_push, get_or_append_
 use Rattle.ce_crew.specs.declared.worker.Worker.{Worker}
 use Rattle.ce_desk.proofs.Dealing.{owns_still}
 use Rattle.ce_desk.proofs.Slots.{at_or_below}
-use Rattle.ce_desk.specs.Cases.{AreFirsts, IsFirstOf, IsDoneFor}
-use Rattle.ce_desk.specs.Crews.{Owns, AreDone, HasTakenBack}
+use Rattle.ce_desk.specs.CasesInside.{AreFirsts, IsFirstOf, IsDoneFor}
+use Rattle.ce_desk.specs.CrewsInside.{Owns, AreDone, HasTakenBack}
 use Rattle.ce_desk.specs.Desk.{Slot}
 use Rattle.ce_desk.specs.DeskText.{Closes, AllClose}
 use Rattle.ce_desk.specs.declared.actor.Actor.{Actor}

@@ -16,8 +16,9 @@ use Rattle.ce_desk.proofs.NoQuit.{no_quit_answered}
 use Rattle.ce_desk.proofs.OneMore.{rose_since}
 use Rattle.ce_desk.specs.Desk.{Desk}
 use Rattle.ce_desk.specs.Served.{ServedAll, ServedSome, IsTooLong, AnsweredEach, stop_of}
-use Rattle.ce_desk.specs.ServedInside.{at_start, HasServed}
-use Rattle.ce_desk.specs.Talks.{Streams, streams, IsLater, HasEnded, IsNext, IsGood, IsSpeechEnd}
+use Rattle.ce_desk.specs.ServedInside.{at_start}
+use Rattle.ce_desk.specs.Served.{HasServed}
+use Rattle.ce_desk.specs.TalksInside.{Streams, streams, IsLater, HasEnded, IsNext, IsGood, IsSpeechEnd}
 use Rattle.ce_desk.specs.declared.serving.DeskEnd.{DeskEnd}
 use Rattle.ce_desk.specs.declared.serving.DeskStop.{DeskStop}
 use Rattle.ce_desk.specs.declared.serving.DeskStop.TheVariants.{Done, InputTooLong as StopTooLong}

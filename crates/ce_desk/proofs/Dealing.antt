@@ -10,8 +10,9 @@ use Rattle.std.proofs.lemmas.List.Elements.{All-nil, All-cons, All-append, All-s
 use Rattle.ce_crew.specs.declared.worker.Worker.{Worker}
 use Rattle.ce_desk.proofs.Slots.{eq_or_not}
 use Rattle.ce_desk.proofs.Slots.{at_or_below}
-use Rattle.ce_desk.specs.Crews.{IsCrewOf, AreCrewsOf, HasWorker, Owns, HaveNone, KeepsOthers, AreIdle, HasHandedOut}
-use Rattle.ce_desk.specs.Crews.{HaveDealt, HasTakenBack}
+use Rattle.ce_desk.specs.CrewsInside.{IsCrewOf, AreCrewsOf, HasWorker, Owns, HaveNone, KeepsOthers, AreIdle}
+use Rattle.ce_desk.specs.CrewsInside.{HasHandedOut}
+use Rattle.ce_desk.specs.CrewsInside.{HaveDealt, HasTakenBack}
 use Rattle.ce_desk.specs.declared.actor.Actor.{Actor}
 use Rattle.ce_desk.specs.declared.actor.Actor.TheVariants.{Crew as ACrew}
 use Rattle.ce_desk.specs.declared.crew.Crew.{Crew}

@@ -17,7 +17,7 @@ use Rattle.ce_desk.specs.Desk.{Desk}
 use Rattle.ce_desk.specs.DeskText.{AllClose, IsDeskText, closing_text}
 use Rattle.ce_desk.specs.Served.{ServedAll, ServedSome}
 use Rattle.ce_desk.specs.ServedInside.{at_start}
-use Rattle.ce_desk.specs.Talks.{Streams, streams, HasTalked, HasTalkedTo, HasEnded, IsGood, quits_at}
+use Rattle.ce_desk.specs.TalksInside.{Streams, streams, HasTalked, HasTalkedTo, HasEnded, IsGood, quits_at}
 use Rattle.ce_desk.specs.declared.closing.Closing.{Closing}
 use Rattle.ce_desk.specs.declared.talk.Talk.{Talk}
 use Rattle.ce_desk.specs.declared.talk.TalkEnd.{TalkEnd}

@@ -4,8 +4,8 @@ use Rattle.std.proofs.Common.{subst, arith}
 use Rattle.std.specs.Prelude.{Result, Ok, IfOk}
 use Rattle.ce_crew.specs.declared.worker.Worker.{Worker}
 use Rattle.ce_desk.proofs.Dealing.{any_of}
-use Rattle.ce_desk.specs.Cases.{AreOpenSlots, AreFirsts}
-use Rattle.ce_desk.specs.Crews.{AreCrewsOf, HaveDealt, AreHired}
+use Rattle.ce_desk.specs.CasesInside.{AreOpenSlots, AreFirsts}
+use Rattle.ce_desk.specs.CrewsInside.{AreCrewsOf, HaveDealt, AreHired}
 use Rattle.ce_desk.specs.Desk.{Slot}
 use Rattle.ce_desk.specs.declared.actor.Actor.{Actor}
 use Rattle.ce_desk.specs.declared.case.Case.{Case}

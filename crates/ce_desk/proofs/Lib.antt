@@ -1,5 +1,5 @@
 mod Slots
-mod OneMore
+pub mod OneMore
 mod Talking
 mod Writing
 mod Reading

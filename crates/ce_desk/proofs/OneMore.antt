@@ -7,7 +7,7 @@ use Rattle.ce_lines.specs.Lines.{TookOne, TookLines}
 use Rattle.ce_port.specs.Sink.{Rose}
 use Rattle.ce_desk.specs.Desk.{Desk}
 use Rattle.ce_desk.specs.DeskText.{IsReply, AreReplies}
-use Rattle.ce_desk.specs.Talks.{Streams, IsLater}
+use Rattle.ce_desk.specs.TalksInside.{Streams, IsLater}
 
 -- what is taken after nothing is taken at once
 took_after_none : (a b c : Option (List ℕ)) (line : Option (List ℕ)) → Consumes a b []

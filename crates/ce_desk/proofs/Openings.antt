@@ -18,10 +18,10 @@ use Rattle.ce_thurston.specs.Indices.{rows_at}
 use Rattle.ce_words.specs.Seats.{board_run}
 use Rattle.ce_words.specs.Views.{rows_of}
 use Rattle.ce_desk.proofs.Slots.{at_or_below}
-use Rattle.ce_desk.specs.Cases.{IsOpenSlot, IsOpenCase, AreOpenSlots}
+use Rattle.ce_desk.specs.CasesInside.{IsOpenSlot, IsOpenCase, AreOpenSlots}
 use Rattle.ce_desk.specs.Desk.{Slot, early_desk, IsOpenCause, IsFirstCause, IsLateIfOpen, OpensInTime}
 use Rattle.ce_desk.specs.DeskText.{IsReply, opened_text}
-use Rattle.ce_desk.specs.Opening.{HasOpened, HasRoom}
+use Rattle.ce_desk.specs.OpeningInside.{HasOpened, HasRoom}
 use Rattle.ce_desk.specs.declared.case.Case.{Case}
 use Rattle.ce_desk.specs.declared.case.Opened.{Opened}
 use Rattle.ce_desk.specs.declared.case.SlotSeat.{SlotSeat}

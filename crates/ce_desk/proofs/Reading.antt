@@ -22,7 +22,7 @@ use Rattle.ce_words.specs.declared.view.Part.{Part}
 use Rattle.ce_words.specs.declared.view.Run.{Run}
 use Rattle.ce_words.specs.declared.view.View.{View}
 use Rattle.ce_desk.proofs.Slots.{eq_or_not}
-use Rattle.ce_desk.specs.Cases.{readings_from, IsFirstOf, AreFirsts, KeepsTurns}
+use Rattle.ce_desk.specs.CasesInside.{readings_from, IsFirstOf, AreFirsts, KeepsTurns}
 use Rattle.ce_desk.specs.Desk.{Slot, Desk}
 use Rattle.ce_desk.specs.DeskText.{IsReply, read_text}
 use Rattle.ce_desk.specs.declared.case.Case.{Case}

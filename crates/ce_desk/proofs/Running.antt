@@ -10,12 +10,12 @@ use Rattle.ce_desk.proofs.Dealing.{crew_is, any_of, no_truth}
 use Rattle.ce_desk.proofs.Reading.{no_slot}
 use Rattle.ce_desk.proofs.Slots.{eq_or_not}
 use Rattle.std.proofs.lemmas.List.{get_or_default}
-use Rattle.ce_desk.specs.Actors.{CanRun, HaveRunCrews, HasRunSession}
-use Rattle.ce_desk.specs.Cases.{AreFirsts, CanRunSlot, HasRunSlot, IsDoneFor, KeepsTurns}
-use Rattle.ce_desk.specs.Crews.{HasWorker, Owns, AreHired, AreDone, AreCrewsOf}
+use Rattle.ce_desk.specs.ActorsInside.{CanRun, HaveRunCrews, HasRunSession}
+use Rattle.ce_desk.specs.CasesInside.{AreFirsts, CanRunSlot, HasRunSlot, IsDoneFor, KeepsTurns}
+use Rattle.ce_desk.specs.CrewsInside.{HasWorker, Owns, AreHired, AreDone, AreCrewsOf}
 use Rattle.ce_desk.specs.Desk.{Slot, Desk}
 use Rattle.ce_desk.specs.ServedInside.{at_start, HasTalkEnded, IsGoingOn}
-use Rattle.ce_desk.specs.Talks.{streams, IsNext}
+use Rattle.ce_desk.specs.TalksInside.{streams, IsNext}
 use Rattle.ce_desk.specs.declared.actor.Actor.{Actor}
 use Rattle.ce_desk.specs.declared.actor.Actor.TheVariants.{Crew as ACrew}
 use Rattle.ce_desk.specs.declared.case.Case.{Case}

@@ -1,19 +1,14 @@
 -- A session goes on.
-use Rattle.std.proofs.Common.{ℕ, List, refl, ap, ◌∙◌, arith}
+use Rattle.std.proofs.Common.{ℕ, List, ◌∙◌, arith}
 use Rattle.std.specs.Prelude.{Result, Ok, Err}
-use Rattle.ce_desk.specs.Cases.{KeepsTurns}
+use Rattle.ce_desk.specs.CasesInside.{KeepsTurns}
 use Rattle.ce_desk.specs.Desk.{Slot}
 use Rattle.ce_desk.specs.declared.talk.TalkEnd.{TalkEnd}
-use Rattle.std.proofs.lemmas.List.{get_or_default}
 
 -- 1 where a slot is to be read
 abbrev pub is_slot : Result ℕ TalkEnd → ℕ
 is_slot (Ok slot) = 1
 is_slot (Err end) = 0
-
-pub turns_same : (slots : List Slot) → KeepsTurns slots slots
-turns_same slots =
-    record { count = refl; each = λ i x y within. ap (λ (z : Slot). z.turns) (get_or_default slots i y x within) }
 
 pub turns_on : (a b c : List Slot) → KeepsTurns a b → KeepsTurns b c → KeepsTurns a c
 turns_on a b c first next = record {

@@ -15,8 +15,9 @@ use Rattle.ce_desk.proofs.Ended.{quit_all, silence_all, part_all}
 use Rattle.ce_desk.specs.Desk.{Desk, empty_desk}
 use Rattle.ce_desk.specs.DeskText.{AllClose, closing_text}
 use Rattle.ce_desk.specs.Served.{ServedAll, ServedSome, stop_of}
-use Rattle.ce_desk.specs.ServedInside.{at_start, StopsBy, HasBegun, IsUnderWay, HasServed}
-use Rattle.ce_desk.specs.Talks.{Streams, streams, HasEnded, IsGood, quits_at}
+use Rattle.ce_desk.specs.ServedInside.{at_start, StopsBy, HasBegun, IsUnderWay}
+use Rattle.ce_desk.specs.Served.{HasServed}
+use Rattle.ce_desk.specs.TalksInside.{Streams, streams, HasEnded, IsGood, quits_at}
 use Rattle.ce_desk.specs.declared.closing.Closing.{Closing}
 use Rattle.ce_desk.specs.declared.serving.DeskEnd.{DeskEnd}
 use Rattle.ce_desk.specs.declared.talk.Fault.{Fault}

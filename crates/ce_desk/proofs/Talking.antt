@@ -18,8 +18,9 @@ use Rattle.ce_desk.specs.Desk.{Desk, empty_desk, IsFirstCause, IsLateIfOpen}
 use Rattle.ce_desk.specs.declared.cause.Cause.{Cause}
 use Rattle.ce_lines.specs.declared.asked.Asked.TheVariants.{Open, Read, Quit as AskedQuit}
 use Rattle.ce_desk.specs.DeskText.{IsReply, AreReplies, refused_text}
-use Rattle.ce_desk.specs.Talks.{Streams, streams, HearsLine, HearsEnd, IsSpeechEnd, IsLater, HasTalked, HasTalkedTo}
-use Rattle.ce_desk.specs.Talks.{HasHeard, WasCutOff, HasEnded, IsNext, IsAfterLine}
+use Rattle.ce_desk.specs.TalksInside.{Streams, streams, HearsLine, HearsEnd, IsSpeechEnd, IsLater, HasTalked}
+use Rattle.ce_desk.specs.TalksInside.{HasTalkedTo}
+use Rattle.ce_desk.specs.TalksInside.{HasHeard, WasCutOff, HasEnded, IsNext, IsAfterLine}
 use Rattle.ce_desk.specs.declared.talk.Fault.TheVariants.{InputTooLong, Read as ReadFault, Write as WriteFault}
 use Rattle.ce_desk.specs.declared.talk.Fault.TheVariants.{NoMemory}
 use Rattle.ce_desk.specs.declared.talk.Talk.{Talk}

@@ -4,9 +4,9 @@ pub mod Desk
 pub mod DeskText
 pub mod Sound
 pub mod Served
-pub mod Talks
-pub mod Cases
-pub mod Opening
-pub mod Actors
-pub mod Crews
+pub mod TalksInside
+pub mod CasesInside
+pub mod OpeningInside
+pub mod ActorsInside
+pub mod CrewsInside
 pub mod ServedInside

@@ -1,16 +1,18 @@
 -- What a desk did to its source and its sink, by the way that it ended. Source: this project's choice.
-use Rattle.std.specs.Prelude.{◌≢◌, ℕ, ◌+◌, ◌^◌, ◌≤◌, ◌⊎◌, Bool, true, false, List, [], ◌∷◌, All, Option, Some}
+use Rattle.std.specs.Prelude.{◌≡◌, ◌≢◌, ℕ, ◌+◌, ◌^◌, ◌≤◌, ◌⊎◌, Bool, true, false, List, [], ◌∷◌, All, Option, Some}
 use Rattle.std.specs.Prelude.{codes}
 use Rattle.std.specs.Io.KnownBytes.{Consumes, IsAtEnd}
 use Rattle.ce_lines.specs.Lines.{TookLine, TookLines, TookPart}
 use Rattle.ce_port.specs.ReadAll.{Gave}
-use Rattle.ce_port.specs.Sink.{GrewBy}
+use Rattle.ce_port.specs.Sink.{GrewBy, Rose}
 use Rattle.ce_port.specs.WriteAll.{GrewByPrefix}
 use Rattle.ce_desk.specs.Desk.{Desk, empty_desk}
 use Rattle.ce_desk.specs.DeskText.{AreReplies, IsDeskText, IsOpeningText}
 use Rattle.ce_desk.specs.declared.talk.Fault.{Fault}
 use Rattle.ce_desk.specs.declared.talk.Fault.TheVariants.{InputTooLong, Read, Write, NoMemory}
+use Rattle.ce_desk.specs.declared.serving.DeskEnd.{DeskEnd}
 use Rattle.ce_desk.specs.declared.serving.DeskStop.{DeskStop}
+use Rattle.ce_desk.specs.declared.serving.DeskStop.TheVariants.{Done as StopDone}
 use Rattle.ce_desk.specs.declared.serving.DeskStop.TheVariants.{InputTooLong as StopTooLong, ReadFault as StopRead}
 use Rattle.ce_desk.specs.declared.serving.DeskStop.TheVariants.{WriteFault as StopWrite, NoMemory as StopNoMemory}
 
@@ -81,3 +83,21 @@ pub record AnsweredEach (rounds exponent beyond : ℕ)
   pub text : List ℕ
   pub replies : AreReplies rounds exponent 1 empty_desk lines desk text
   pub grew : GrewBy taken taken_after text
+
+module _ {S O : Type 0} (left : S → Option (List ℕ)) (read_faults : S → ℕ) (taken : O → Option (List ℕ))
+    (write_faults : O → ℕ) where
+  -- What a desk did to its source and its sink, by the way that it ended; the faults of both never go down.
+  pub record HasServed (rounds exponent : ℕ) (source : S) (out : O) (end : DeskEnd S O) : Type 0 where
+    pub done : end.stop ≡ StopDone
+        → ServedAll rounds exponent (left source) (left end.source) (taken out) (taken end.out)
+    pub part : end.stop ≢ StopDone
+        → ServedSome rounds exponent (left source) (left end.source) (taken out) (taken end.out)
+    pub too_long : end.stop ≡ StopTooLong → IsTooLong (left source) (left end.source)
+    pub answered : end.stop ≡ StopTooLong
+        → AnsweredEach rounds exponent 1 (left source) (left end.source) (taken out) (taken end.out)
+    pub answered_all : end.stop ≡ StopRead
+        → AnsweredEach rounds exponent 0 (left source) (left end.source) (taken out) (taken end.out)
+    pub read_fault : end.stop ≡ StopRead → Rose (read_faults source) (read_faults end.source)
+    pub write_fault : end.stop ≡ StopWrite → Rose (write_faults out) (write_faults end.out)
+    pub read : read_faults source ≤ read_faults end.source
+    pub wrote : write_faults out ≤ write_faults end.out

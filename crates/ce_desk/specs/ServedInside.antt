@@ -1,11 +1,7 @@
 -- A desk on its way, over the streams that it began with.
-use Rattle.std.specs.Prelude.{◌≡◌, ◌≢◌, ℕ, ◌≤◌, ◌⊎◌, List, Option, Result, Err}
-use Rattle.ce_port.specs.Sink.{Rose}
+use Rattle.std.specs.Prelude.{◌≡◌, ℕ, ◌⊎◌, List, Option, Result, Err}
 use Rattle.ce_desk.specs.Desk.{Desk, empty_desk}
-use Rattle.ce_desk.specs.Served.{ServedAll, ServedSome, IsTooLong, AnsweredEach}
-use Rattle.ce_desk.specs.Talks.{Streams, streams, IsTalk, HasTalked, HasEnded, IsNext}
-use Rattle.ce_desk.specs.declared.serving.DeskEnd.{DeskEnd}
-use Rattle.ce_desk.specs.declared.serving.DeskStop.TheVariants.{Done, InputTooLong, ReadFault, WriteFault}
+use Rattle.ce_desk.specs.TalksInside.{Streams, streams, IsTalk, HasTalked, HasEnded, IsNext}
 use Rattle.ce_desk.specs.declared.session.Session.{Session}
 use Rattle.ce_desk.specs.declared.talk.Fault.{Fault}
 use Rattle.ce_desk.specs.declared.talk.Fault.TheVariants.{NoMemory}
@@ -52,17 +48,3 @@ module _ {S O : Type 0} (left : S → Option (List ℕ)) (read_faults : S → �
   HasTalkEnded rounds exponent source out talk end desk =
       HasEnded rounds exponent (at_start source out) end desk (streams left read_faults taken write_faults talk)
       × IsTalk talk
-
-  -- The clauses of a desk.
-  pub record HasServed (rounds exponent : ℕ) (source : S) (out : O) (end : DeskEnd S O) : Type 0 where
-    pub done : end.stop ≡ Done → ServedAll rounds exponent (left source) (left end.source) (taken out) (taken end.out)
-    pub part : end.stop ≢ Done → ServedSome rounds exponent (left source) (left end.source) (taken out) (taken end.out)
-    pub too_long : end.stop ≡ InputTooLong → IsTooLong (left source) (left end.source)
-    pub answered : end.stop ≡ InputTooLong
-        → AnsweredEach rounds exponent 1 (left source) (left end.source) (taken out) (taken end.out)
-    pub answered_all : end.stop ≡ ReadFault
-        → AnsweredEach rounds exponent 0 (left source) (left end.source) (taken out) (taken end.out)
-    pub read_fault : end.stop ≡ ReadFault → Rose (read_faults source) (read_faults end.source)
-    pub write_fault : end.stop ≡ WriteFault → Rose (write_faults out) (write_faults end.out)
-    pub read : read_faults source ≤ read_faults end.source
-    pub wrote : write_faults out ≤ write_faults end.out

@@ -1,7 +1,7 @@
 // Session and crew side by side.
 ghost use Rattle.ce_desk.specs.Desk.{most_slots};
 ghost use Rattle.std.specs.Prelude.{◌≡◌, ◌≤◌, ◌<◌, ◌∷◌, ℕ, List, All, length, slice_index_or};
-ghost use Rattle.ce_desk.specs.Actors.{CanRun, HasRun, HasRunSession, HaveRunCrews};
+ghost use Rattle.ce_desk.specs.ActorsInside.{CanRun, HasRun, HasRunSession, HaveRunCrews};
 ghost use Rattle.ce_desk.specs.declared.actor.Actor.TheVariants.{Session as ASession};
 
 use crate::case::Case;

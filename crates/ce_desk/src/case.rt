@@ -1,7 +1,7 @@
 // An opened angle.
-ghost use Rattle.ce_solve.specs.Limits.{most_turns};
-ghost use Rattle.std.specs.Prelude.{◌≡◌, ◌≤◌, IfOk};
-ghost use Rattle.ce_desk.specs.Cases.{IsOpenCase};
+ghost use Rattle.std.specs.Prelude.{◌≤◌, IfOk};
+ghost use Rattle.ce_desk.specs.CasesInside.{IsOpenCase};
+ghost use Rattle.ce_rows.specs.Limits.{most_rounds, most_turns};
 
 use ce_comp::Ranks;
 use ce_crew::Worker;
@@ -42,7 +42,7 @@ pub(crate) fn open_case(
     rounds: u32,
     turns: u32,
 ) -> Result<Opened, NoMemory>
-    requires rounds { rounds ≤ 36 }
+    requires rounds { rounds ≤ most_rounds }
     requires turns { turns ≤ most_turns }
     ensures { IfOk result (IsOpenCase rows rounds turns) }
 {

@@ -1,9 +1,7 @@
 // What a slot came to.
 ghost use Rattle.std.specs.Prelude.{◌≡◌, ◌<◌, ◌≤◌, [], List, length, vec_capacity};
-ghost use Rattle.ce_words.specs.Seats.{Sits};
-ghost use Rattle.ce_words.specs.Views.{view};
-ghost use Rattle.ce_desk.specs.Cases.{IsFirstOf, IsDoneFor, AreFirsts};
-ghost use Rattle.ce_desk.specs.Crews.{AreDone};
+ghost use Rattle.ce_desk.specs.CasesInside.{IsFirstOf, IsDoneFor, AreFirsts};
+ghost use Rattle.ce_desk.specs.CrewsInside.{AreDone};
 ghost use Rattle.ce_desk.specs.Desk.{Slot};
 ghost use Rattle.ce_desk.specs.DeskText.{Closes, AllClose};
 

@@ -1,8 +1,8 @@
 // An actor of the crew, which owns workers.
-ghost use Rattle.std.specs.Prelude.{◌≡◌, ◌<◌, ℕ, All, IfOk, length, slice_index_or, slice_set};
+ghost use Rattle.std.specs.Prelude.{◌≡◌, ◌<◌, All, IfOk, length, slice_index_or, slice_set};
 ghost use Rattle.std.specs.Prelude.{Option, None, Some};
-ghost use Rattle.ce_desk.specs.Actors.{CanRunCrew, HasRunCrew};
-ghost use Rattle.ce_desk.specs.Cases.{CanRunSlot, HasRunSlot};
+ghost use Rattle.ce_desk.specs.ActorsInside.{CanRunCrew, HasRunCrew};
+ghost use Rattle.ce_desk.specs.CasesInside.{CanRunSlot, HasRunSlot};
 
 use crate::Case;
 use ce_crew::Worker;

@@ -1,16 +1,16 @@
 // The opening: angles are opened, until a line reads a slot or the lines are at their end.
-ghost use Rattle.ce_solve.specs.Limits.{most_turns};
-ghost use Rattle.std.specs.Prelude.{◌≡◌, ◌≤◌, ◌<◌, ◌++◌, [], ◌∷◌, ℕ, List, false, Some, IfOk, Ok};
+ghost use Rattle.std.specs.Prelude.{◌≡◌, ◌≤◌, ◌<◌, ◌++◌, [], ◌∷◌, List, Some, IfOk, Ok};
 ghost use Rattle.std.specs.Prelude.{Err, length, vec_capacity};
 ghost use Rattle.std.specs.Option.{IfSome, IfNone};
 ghost use Rattle.std.specs.Result.{IfErr};
 ghost use Rattle.ce_lines.specs.Bytes.{room_left};
 ghost use Rattle.ce_lines.specs.declared.asked.Asked.TheVariants.{Open as AskedOpen};
 ghost use Rattle.ce_thurston.specs.Indices.{rows_at};
-ghost use Rattle.ce_desk.specs.Cases.{IsOpenCase, AreOpenSlots};
-ghost use Rattle.ce_desk.specs.Desk.{Slot, Desk, IsOpenCause, IsLateIfOpen, early_desk};
-ghost use Rattle.ce_desk.specs.Talks.{Streams, streams, IsTalk, HasTalked, HasHeard, HasEnded};
-ghost use Rattle.ce_desk.specs.Talks.{IsNext, IsAfterLine};
+ghost use Rattle.ce_desk.specs.CasesInside.{IsOpenCase, AreOpenSlots};
+ghost use Rattle.ce_desk.specs.Desk.{Slot, IsOpenCause, IsLateIfOpen, early_desk};
+ghost use Rattle.ce_desk.specs.TalksInside.{Streams, streams, IsTalk, HasTalked, HasHeard, HasEnded};
+ghost use Rattle.ce_desk.specs.TalksInside.{IsNext, IsAfterLine};
+ghost use Rattle.ce_rows.specs.Limits.{most_rounds, most_turns};
 
 use crate::case::{Case, Opened, SlotSeat, open_case};
 use crate::cause::Cause;
@@ -45,7 +45,7 @@ fn open_orbit(
     orbit: &Orbit,
     turns: u32,
 ) -> Result<Opened, NoMemory>
-    requires rounds { settings.now.rounds ≤ 36 }
+    requires rounds { settings.now.rounds ≤ most_rounds }
     requires turns { turns ≤ most_turns }
     ensures { IfOk result
         (IsOpenCase (rows_at orbit.now settings.now.scale) settings.now.rounds turns) }
@@ -79,7 +79,7 @@ fn put<T: Drop>(list: &mut Vec<T>, item: T)
 }
 
 impl Slots {
-    ghost use Rattle.ce_desk.specs.Opening.{HasRoom, HasOpened};
+    ghost use Rattle.ce_desk.specs.OpeningInside.{HasRoom, HasOpened};
 
     // No angle is opened; there is room for the most.
     pub(crate) fn new(alloc: Global) -> Result<Slots, NoMemory>
@@ -112,7 +112,7 @@ impl Slots {
         turns: u32,
     ) -> Result<(Angle, Interval), Cause>
         requires room { HasRoom self.old }
-        requires rounds { settings.now.rounds ≤ 36 }
+        requires rounds { settings.now.rounds ≤ most_rounds }
         requires turns { turns ≤ most_turns }
         ensures room { HasRoom self.new }
         ensures opened { IfOk result (HasOpened settings.now angle turns self.old self.new) }
@@ -155,7 +155,7 @@ impl Slots {
         talk: &mut Talk<S, O>,
     ) -> Result<(), TalkEnd>
         requires room { HasRoom self.old }
-        requires rounds { settings.now.rounds ≤ 36 }
+        requires rounds { settings.now.rounds ≤ most_rounds }
         requires turns { turns ≤ most_turns }
         requires talk { IsTalk talk.old }
         ensures room { HasRoom self.new }
@@ -194,7 +194,7 @@ impl Slots {
         talk: &mut Talk<S, O>,
     ) -> Result<Option<usize>, TalkEnd>
         requires room { HasRoom self.old }
-        requires rounds { settings.now.rounds ≤ 36 }
+        requires rounds { settings.now.rounds ≤ most_rounds }
         requires talk { IsTalk talk.old }
         ensures room { HasRoom self.new }
         ensures talk { IsTalk talk.new }
@@ -237,7 +237,7 @@ impl Slots {
         talk: &mut Talk<S, O>,
     ) -> Result<usize, TalkEnd>
         requires room { HasRoom self.old }
-        requires rounds { settings.now.rounds ≤ 36 }
+        requires rounds { settings.now.rounds ≤ most_rounds }
         requires talk { IsTalk talk.old }
         ensures room { HasRoom self.new }
         ensures talk { IsTalk talk.new }

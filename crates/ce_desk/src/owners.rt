@@ -1,8 +1,8 @@
 // Which actor of the crew owns which workers.
-ghost use Rattle.ce_solve.specs.Limits.{most_workers};
 ghost use Rattle.std.specs.Prelude.{◌≡◌, ◌<◌, ◌≤◌, ◌+◌, ◌%◌, ℕ, IfOk, length, vec_capacity};
-ghost use Rattle.ce_desk.specs.Crews.{AreIdle, AreCrewsOf, HasHandedOut, HaveDealt, Owns};
-ghost use Rattle.ce_desk.specs.Crews.{HasTakenBack};
+ghost use Rattle.ce_desk.specs.CrewsInside.{AreIdle, AreCrewsOf, HasHandedOut, HaveDealt, Owns};
+ghost use Rattle.ce_desk.specs.CrewsInside.{HasTakenBack};
+ghost use Rattle.ce_rows.specs.Limits.{most_workers};
 
 use crate::actor::Actor;
 use crate::crew::Crew;

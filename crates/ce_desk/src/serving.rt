@@ -1,23 +1,24 @@
 // A whole desk.
-ghost use Rattle.ce_solve.specs.Limits.{most_workers};
-ghost use Rattle.std.specs.Prelude.{◌≡◌, ◌≢◌, ◌<◌, ◌≤◌, [], ℕ, List, false, IfOk, Result, Err, length};
+ghost use Rattle.std.specs.Prelude.{◌≡◌, ◌≢◌, ◌<◌, ◌≤◌, [], ℕ, false, IfOk, Result, Err, length};
 ghost use Rattle.std.specs.Prelude.{vec_capacity};
 ghost use Rattle.std.specs.Option.{IfNone, IfSome};
 ghost use Rattle.ce_port.specs.Sink.{Rose};
-ghost use Rattle.ce_desk.specs.Actors.{IsSession};
-ghost use Rattle.ce_desk.specs.Cases.{AreFirsts, AreOpenSlots};
-ghost use Rattle.ce_desk.specs.Crews.{AreHired};
-ghost use Rattle.ce_desk.specs.Desk.{Slot, Desk, most_slots};
+ghost use Rattle.ce_desk.specs.ActorsInside.{IsSession};
+ghost use Rattle.ce_desk.specs.CasesInside.{AreFirsts, AreOpenSlots};
+ghost use Rattle.ce_desk.specs.CrewsInside.{AreHired};
+ghost use Rattle.ce_desk.specs.Desk.{Desk, most_slots};
 ghost use Rattle.ce_desk.specs.DeskText.{AllClose};
-ghost use Rattle.ce_desk.specs.Opening.{HasRoom};
+ghost use Rattle.ce_desk.specs.OpeningInside.{HasRoom};
 ghost use Rattle.ce_desk.specs.Served.{ServedAll, ServedSome, IsTooLong, AnsweredEach};
 ghost use Rattle.ce_desk.specs.Served.{stop_of};
 ghost use Rattle.ce_desk.specs.ServedInside.{StopsBy, HasBegun, IsUnderWay, IsGoingOn};
-ghost use Rattle.ce_desk.specs.ServedInside.{HasTalkEnded, HasServed};
-ghost use Rattle.ce_desk.specs.Talks.{IsTalk};
+ghost use Rattle.ce_desk.specs.ServedInside.{HasTalkEnded};
+ghost use Rattle.ce_desk.specs.Served.{HasServed};
+ghost use Rattle.ce_desk.specs.TalksInside.{IsTalk};
 ghost use Rattle.ce_desk.specs.declared.serving.DeskStop.TheVariants.{Done, InputTooLong};
 ghost use Rattle.ce_desk.specs.declared.serving.DeskStop.TheVariants.{ReadFault, WriteFault};
 ghost use Rattle.ce_desk.specs.declared.talk.TalkEnd.TheVariants.{Fault as Failed};
+ghost use Rattle.ce_rows.specs.Limits.{most_rounds, most_workers};
 
 use crate::actor::{Actor, run_beside};
 use crate::case::Case;
@@ -213,7 +214,7 @@ fn open_and_run<R: Threads + Sync, S: Source + Send + Drop, O: Sink + Send + Dro
     talk: Talk<S, O>,
     gate: &G,
 ) -> DeskEnd<S, O>
-    requires rounds { settings.now.rounds ≤ 36 }
+    requires rounds { settings.now.rounds ≤ most_rounds }
     requires workers { (1 ≤ settings.now.workers) × (settings.now.workers ≤ most_workers) }
     requires talk { IsTalk talk }
     requires begun { (source : S) × (out : O)
@@ -251,7 +252,7 @@ pub fn serve<R: Threads + Sync, S: Source + Send + Drop, O: Sink + Send + Drop, 
     out: O,
     gate: &G,
 ) -> DeskEnd<S, O>
-    requires rounds { settings.rounds ≤ 36 }
+    requires rounds { settings.rounds ≤ most_rounds }
     requires workers { (1 ≤ settings.workers) × (settings.workers ≤ most_workers) }
     // Each line up to `quit` or the end of the input was answered, and the closing lines were
     // written.

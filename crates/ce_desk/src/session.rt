@@ -3,10 +3,10 @@ ghost use Rattle.std.specs.Prelude.{◌≡◌, ◌≤◌, ◌<◌, ℕ, true, Li
 ghost use Rattle.std.specs.Result.{IfErr};
 ghost use Rattle.ce_lines.specs.Bytes.{room_left};
 ghost use Rattle.ce_lines.specs.declared.asked.Asked.TheVariants.{Read as AskedRead};
-ghost use Rattle.ce_desk.specs.Cases.{AreFirsts, KeepsTurns};
+ghost use Rattle.ce_desk.specs.CasesInside.{AreFirsts, KeepsTurns};
 ghost use Rattle.ce_desk.specs.Desk.{Slot, Desk, most_slots};
-ghost use Rattle.ce_desk.specs.Talks.{Streams, streams, IsTalk, HasTalked, HasHeard, HasEnded};
-ghost use Rattle.ce_desk.specs.Talks.{IsNext};
+ghost use Rattle.ce_desk.specs.TalksInside.{Streams, streams, IsTalk, HasTalked, HasHeard, HasEnded};
+ghost use Rattle.ce_desk.specs.TalksInside.{IsNext};
 
 use crate::case::{Case, SlotSeat};
 use crate::replies::read_line;
@@ -120,7 +120,7 @@ fn answer_all<S: Source, O: Sink>(
 }
 
 impl<S: Source, O: Sink> Session<S, O> {
-    ghost use Rattle.ce_desk.specs.Actors.{IsSession, HasRunSession};
+    ghost use Rattle.ce_desk.specs.ActorsInside.{IsSession, HasRunSession};
 
     // Answers lines to the end of the talk.
     pub(crate) fn run(&mut self, alloc: Global, cases: &[Case])

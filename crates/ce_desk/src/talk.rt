@@ -99,9 +99,9 @@ pub struct Talk<S, O> {
 
 impl<S: Source, O: Sink> Talk<S, O> {
     ghost use Rattle.ce_desk.specs.DeskText.{refused_text, closing_lines, closing_text};
-    ghost use Rattle.ce_desk.specs.Talks.{Streams, streams, IsTalk, HearsLine, HearsEnd};
-    ghost use Rattle.ce_desk.specs.Talks.{IsSpeechEnd};
-    ghost use Rattle.ce_desk.specs.Talks.{HasTalked, IsNext, IsAfterLine, IsGood, quits_at};
+    ghost use Rattle.ce_desk.specs.TalksInside.{Streams, streams, IsTalk, HearsLine, HearsEnd};
+    ghost use Rattle.ce_desk.specs.TalksInside.{IsSpeechEnd};
+    ghost use Rattle.ce_desk.specs.TalksInside.{HasTalked, IsNext, IsAfterLine, IsGood, quits_at};
 
     // No line was taken.
     pub(crate) fn new(source: S, out: O) -> Talk<S, O>

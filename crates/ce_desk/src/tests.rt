@@ -1,5 +1,6 @@
 // The worked scripts, over a source and a sink in memory.
 ghost use Rattle.std.specs.Prelude.{◌≤◌};
+ghost use Rattle.ce_rows.specs.Limits.{most_workers};
 
 use crate::serving::{DeskStop, serve};
 use crate::settings::DeskSettings;
@@ -21,7 +22,7 @@ fn expect_desk(
     stop: DeskStop,
     want: &str,
 ) -> Result<(), Fail>
-    requires workers { (1 ≤ workers) × (workers ≤ 16) }
+    requires workers { (1 ≤ workers) × (workers ≤ most_workers) }
     requires piece { 1 ≤ piece }
 {
     let Some(scale) = Scale::new(32) else {

@@ -1,21 +1,13 @@
 -- A line asks one thing, and a line that is cut otherwise asks nothing.
-use Rattle.std.proofs.Common.{◌≡◌, ◌≢◌, ◌<◌, ◌+◌, ℕ, min, true, false, not, ◌==◌, List, [], ◌∷◌, ◌++◌, get_or}
+use Rattle.std.proofs.Common.{◌≡◌, ◌≢◌, ◌<◌, ◌+◌, ℕ, min, List, ◌∷◌, ◌++◌, get_or}
 use Rattle.std.proofs.Common.{refl, sym, ap, ◌∙◌, subst, arith}
 use Rattle.std.specs.Prelude.{codes, Option, None, Some}
 use Rattle.std.specs.Option.{IfSome, IfNone}
-use Rattle.std.specs.List.{list_all}
 use Rattle.std.specs.Str.Parse.{digits_value}
-use Rattle.std.proofs.lemmas.Bool.{false≢true}
-use Rattle.std.proofs.lemmas.Bool.Decides.{nat_tests}
-use Rattle.std.proofs.lemmas.List.Folds.{list_all_at}
-use Rattle.ce_lines.specs.Asks.{Lacks, Spells, IsGrant, AsksOpen, AsksRead, IsFormless, Asks, IsAsked}
+use Rattle.ce_angle.specs.Cuts.{Lacks}
+use Rattle.ce_lines.specs.Asks.{Spells, IsGrant, AsksOpen, AsksRead, IsFormless, Asks, IsAsked}
 use Rattle.ce_lines.specs.declared.asked.Asked.{Asked}
-use Rattle.ce_lines.proofs.Cuts.{cut_unique, cut_not}
-
-lacks_by_test : (byte : ℕ) (text : List ℕ) → list_all (λ other. not (other == byte)) text ≡ true → Lacks byte text
-lacks_by_test byte text h k d within same =
-    let met : not (get_or text k d == byte) ≡ false = grind (arith, nat_tests) in
-    false≢true (sym (list_all_at (λ other. not (other == byte)) text k d within met) ∙ h)
+use Rattle.ce_angle.proofs.Cuts.{cut_unique, cut_not, lacks_by_test}
 
 open_plain : Lacks 32 (codes "open")
 open_plain = lacks_by_test 32 (codes "open") refl
@@ -30,10 +22,6 @@ pub no_grant_uncut : (text : List ℕ) → Lacks 32 text → (word : List ℕ) (
 no_grant_uncut text lacks word turns g = cut_not 32 word g.number text lacks g.spelled
 
 module _ (text word number : List ℕ) (whole : text ≡ word ++ 32 ∷ number) (first : Lacks 32 word) where
-  pub no_grant_empty : word ≡ [] → (w : List ℕ) (turns : ℕ) → IsGrant text w turns → ⊥
-  no_grant_empty empty w turns g =
-      g.some (sym (cut_unique 32 word number w g.number first g.plain (sym whole ∙ g.spelled)).before ∙ empty)
-
   pub no_grant_number : ((value : ℕ) → Spells number value → ⊥) → (w : List ℕ) (turns : ℕ) → IsGrant text w turns → ⊥
   no_grant_number none w turns g =
       let cut = cut_unique 32 word number w g.number first g.plain (sym whole ∙ g.spelled) in
@@ -79,14 +67,6 @@ module _ (name rest : List ℕ) (lacks : Lacks 32 name) where
     no_open = λ word turns asks. none word turns (open_only word turns asks).1;
     no_read = λ slot asks. let byte = first_byte (codes "open") (codes "read") (sym is ∙ (read_only slot asks).0) in
         omega (arith, byte);
-    no_quit = no_quit;
-  }
-
-  pub formless_read : name ≡ codes "read" → ((slot : ℕ) → Spells rest slot → ⊥) → IsFormless (name ++ 32 ∷ rest)
-  formless_read is none = record {
-    no_open = λ word turns asks. let byte =
-        first_byte (codes "read") (codes "open") (sym is ∙ (open_only word turns asks).0) in omega (arith, byte);
-    no_read = λ slot asks. none slot (read_only slot asks).1;
     no_quit = no_quit;
   }
 

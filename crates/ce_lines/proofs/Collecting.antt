@@ -1,13 +1,13 @@
 -- A line that comes byte by byte.
 use Rattle.std.proofs.Common.{◌≡◌, ◌≢◌, ◌≤◌, ◌<◌, ◌+◌, ℕ, min, List, [], ◌∷◌, ◌++◌, length, take, slice_set}
-use Rattle.std.proofs.Common.{Option, inl, inr, refl, sym, ap, subst, ◌∙◌, arith, length-append, append-nil}
+use Rattle.std.proofs.Common.{Option, inl, ap, ◌∙◌, arith, length-append}
 use Rattle.std.proofs.lemmas.List.{take_more_set}
 use Rattle.std.proofs.lemmas.List.Elements.{All-append, All-cons}
-use Rattle.std.specs.Io.KnownBytes.{Consumes, IsAtEnd}
-use Rattle.std.proofs.KnownBytes.{Consumes-trans, Consumes-nil}
+use Rattle.std.specs.Io.KnownBytes.{Consumes}
+use Rattle.std.proofs.KnownBytes.{Consumes-trans}
 use Rattle.ce_lines.specs.Bytes.{WasGiven}
 use Rattle.ce_lines.specs.declared.byte_reader.ByteReader.{ByteReader}
-use Rattle.ce_lines.specs.Lines.{IsOneLine, TookLine, TookFormless, TookPart}
+use Rattle.ce_lines.specs.Lines.{IsOneLine, TookFormless}
 
 -- Bytes of a line were taken: so many, where 64 stands for all greater lengths, and they stand at the front of a buffer
 -- where they are few.
@@ -17,17 +17,6 @@ pub record Collects (old new : Option (List ℕ)) (len : ℕ) (line : List ℕ) 
   pub took : Consumes old new text
   pub count : len ≡ min (length text) 64
   pub front : length text ≤ 63 → take len line ≡ text
-
-pub collects_none : (a : Option (List ℕ)) (line : List ℕ) → Collects a a 0 line
-collects_none a line =
-    record {
-      text = [];
-      one = λ k d h. absurd (omega (arith, h));
-      took =
-          Consumes-nil a;
-      count = refl;
-      front = λ _. refl;
-    }
 
 module _ (a b c : Option (List ℕ)) (len : ℕ) (line : List ℕ) (so_far : Collects a b len line) where
   abbrev text : List ℕ
@@ -53,11 +42,6 @@ module _ (a b c : Option (List ℕ)) (len : ℕ) (line : List ℕ) (so_far : Col
         front = front;
       }
 
-  pub whole_line : Consumes b c (10 ∷ []) → len ≤ 63 → TookLine a c (take len line)
-  whole_line step few =
-      subst (TookLine a c) (sym (so_far.front (omega (arith, so_far.count, few))))
-      (record { one = so_far.one; took = Consumes-trans a b c text (10 ∷ []) so_far.took step })
-
   pub long_line : Consumes b c (10 ∷ []) → 63 < len → TookFormless a c
   long_line step many = (
     text,
@@ -66,30 +50,6 @@ module _ (a b c : Option (List ℕ)) (len : ℕ) (line : List ℕ) (so_far : Col
       record { one = so_far.one; took = Consumes-trans a b c text (10 ∷ []) so_far.took step },
     ),
   )
-
-  took_nothing_more : Consumes b c [] → Consumes a c text
-  took_nothing_more step = subst (Consumes a c) (append-nil text) (Consumes-trans a b c text [] so_far.took step)
-
-  pub rest_of_input : Consumes b c [] → IsAtEnd c → 0 < len → TookFormless a c
-  rest_of_input step end some = (
-    text,
-    inr (record {
-      some = omega (arith, so_far.count, some);
-      one = so_far.one;
-      took = took_nothing_more step;
-      end = end;
-    }),
-  )
-
-  pub part_of_line : Consumes b c [] → TookPart a c
-  part_of_line step = (text, so_far.one, took_nothing_more step)
-
-  pub took_nothing : Consumes b c [] → len ≡ 0 → Consumes a c []
-  took_nothing step none =
-      subst (Consumes a c) (no_text so_far.text (omega (arith, so_far.count, none))) (took_nothing_more step) where
-        no_text : (xs : List ℕ) → length xs ≡ 0 → xs ≡ []
-        no_text [] h = refl
-        no_text (x ∷ xs) h = absurd (omega (arith, h))
 
 pub given_more : {S : Type 0} (left : S → Option (List ℕ)) (a b c : ByteReader S) → WasGiven left a b
     → WasGiven left b c → WasGiven left a c
@@ -103,6 +63,3 @@ given_more left a b c first next = record {
   );
   given = omega (arith, first.given, next.given);
 }
-
-pub given_none : {S : Type 0} (left : S → Option (List ℕ)) (a : ByteReader S) → WasGiven left a a
-given_none left a = record { more = 0; gave = ([], refl, Consumes-nil (left a.source)); given = omega arith }

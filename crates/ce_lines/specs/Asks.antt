@@ -1,22 +1,18 @@
 -- What a line asks of a desk. Source: this project's choice.
-use Rattle.std.specs.Prelude.{◌≡◌, ◌≢◌, ℕ, ◌-◌, ◌^◌, ◌≤◌, ◌&&◌, ◌==◌, nat_lt, not, Bool, true, min, List, [], ◌∷◌, ◌++◌}
+use Rattle.std.specs.Prelude.{◌≡◌, ◌≢◌, ℕ, ◌-◌, ◌^◌, ◌≤◌, ◌&&◌, nat_lt, not, Bool, true, min, List, [], ◌∷◌, ◌++◌}
 use Rattle.std.specs.Prelude.{length}
-use Rattle.std.specs.Prelude.{All, codes, slice_index, Option, None, Some, ⊤}
+use Rattle.std.specs.Prelude.{codes, Option, None, Some, ⊤}
 use Rattle.std.specs.Char.{is_ascii_digit}
 use Rattle.std.specs.List.{list_all}
 use Rattle.std.specs.Str.Parse.{digits_value}
-use Rattle.ce_angle.specs.Typed.{angle_of_text}
+use Rattle.ce_angle.specs.Cuts.{Lacks}
+use Rattle.ce_angle.specs.Typed.{angle_of_text, has_leading_zero}
 use Rattle.ce_lines.specs.declared.asked.Asked.{Asked}
 use Rattle.ce_lines.specs.declared.asked.Asked.TheVariants.{Open, Read, Quit}
 
--- No byte of a text is this one.
-abbrev pub Lacks : ℕ → List ℕ → Type 0
-Lacks byte text = All (λ other. other ≢ byte) text
-
 -- digits without a leading zero; 0 alone is a number
 abbrev pub is_numeral : List ℕ → Bool
-is_numeral text = nat_lt 0 (length text) && not (nat_lt 1 (length text) && slice_index text 0 == 48)
-    && list_all is_ascii_digit text
+is_numeral text = nat_lt 0 (length text) && not (has_leading_zero text) && list_all is_ascii_digit text
 
 -- A text is a number of any length.
 pub record Spells (text : List ℕ) (number : ℕ) : Type 0 where

@@ -1,10 +1,11 @@
 // What a line asks of a desk.
-ghost use Rattle.std.specs.Prelude.{◌≡◌, ◌≢◌, ◌≤◌, ◌^◌, true, false, ◌++◌, ◌∷◌, ℕ, List, codes};
+ghost use Rattle.std.specs.Prelude.{◌≡◌, ◌≢◌, true, false, ◌++◌, ◌∷◌, ℕ, List, codes};
 ghost use Rattle.std.specs.Prelude.{min};
 ghost use Rattle.std.specs.Char.{is_ascii_digit};
 ghost use Rattle.std.specs.List.{list_all};
 ghost use Rattle.std.specs.Option.{IfSome, IfNone};
-ghost use Rattle.ce_lines.specs.Asks.{is_numeral, Spells, Lacks, IsGrant, IsFormless, Asks};
+ghost use Rattle.ce_angle.specs.Cuts.{Lacks};
+ghost use Rattle.ce_lines.specs.Asks.{is_numeral, Spells, IsGrant, IsFormless, Asks};
 
 use ce_angle::{Angle, AngleError};
 

@@ -9,7 +9,8 @@ use ce_port::MemSource;
 use std::process::Abort;
 use std::test::Fail;
 
-// What the only line of an input asks, given in pieces of so many bytes, and that nothing follows it.
+// What the only line of an input asks, given in pieces of so many bytes, and that nothing follows
+// it.
 fn expect_asked(
     rt: &(impl Abort + AllocGlobal),
     piece: usize,

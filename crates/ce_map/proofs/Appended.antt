@@ -49,10 +49,6 @@ three_digits n x y z some few first second last =
     (omega arith)
     ∙ ap (λ l. l ++ digit_glyph false (n % 10) ∷ []) front ∙ ap (λ g. x ∷ (y ∷ (g ∷ []))) (sym last)
 
--- a text that grew goes on
-pub grew : (a b c p : List ℕ) → b ≡ a ++ p → Extends b c → Extends a c
-grew a b c p same more = (p ++ more.0, more.1 ∙ ap (λ l. l ++ more.0) same ∙ append_assoc a p more.0)
-
 pub ok_then : {X E : Type 0} (r : Result X E) (P Q : Type 0) → (P → Q) → OnOk r P → OnOk r Q
 ok_then (Ok x) P Q more h = more h
 ok_then (Err e) P Q more h = tt

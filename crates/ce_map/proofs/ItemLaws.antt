@@ -31,10 +31,6 @@ pub word_cut : (name text found after : List ℕ) → word_front name text ≡ S
 word_cut name text found after some same =
     same_Some found after (sym some ∙ ap (word_front name) same ∙ word_again name after)
 
-pub none_then : {X : Type 0} (found : Option X) (P Q : Type 0) → (P → Q) → IfNone found P → IfNone found Q
-none_then None P Q more h = more h
-none_then (Some x) P Q more h = tt
-
 pub named_is : (name : List ℕ) (base : ℕ) (text tail : List ℕ) (numbers : Numbers) (rest : List ℕ)
     → word_front name text ≡ Some tail → IsListAt base tail numbers rest → IsNamedListAt name base text numbers rest
 named_is name base text tail numbers rest found is = record {
@@ -105,7 +101,7 @@ is_item_of l ranks rank v w line a b c d = record {
   high_vector = d;
 }
 
-numbers_of : (item : Item) → IsItem item → AreNumbers (line_of item)
+pub numbers_of : (item : Item) → IsItem item → AreNumbers (line_of item)
 numbers_of item is = record { num = is.num; den = is.den; low = is.low; high = is.high }
 
 -- a list of one 0

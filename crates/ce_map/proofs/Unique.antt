@@ -13,7 +13,7 @@ use Rattle.ce_map.specs.Grammar.{IsMapOf}
 use Rattle.ce_map.specs.LinesInside.{header_front, end_front}
 use Rattle.ce_map.proofs.FieldLaws.{word_again}
 use Rattle.ce_map.proofs.Fronts.{line_of, low_then, four_lines, AreNumbers, one_angle, end_lines, end_read, header_read}
-use Rattle.ce_map.proofs.ItemLaws.{word_cut, rank_read, item_of}
+use Rattle.ce_map.proofs.ItemLaws.{word_cut, rank_read, item_of, numbers_of}
 use Rattle.ce_map.proofs.ListLaws.{one_list}
 
 pub record IsSameHeader (h g : Header) (x y : List ℕ) : Type 0 where
@@ -60,9 +60,6 @@ same_item i j line ranks rank v w =
     ∙ ap (λ c. item_of (line_of j) j.evidence.ranks c i.evidence.low_vector i.evidence.high_vector) rank
     ∙ ap (λ x. item_of (line_of j) j.evidence.ranks j.evidence.low_rank x i.evidence.high_vector) v
     ∙ ap (λ x. item_of (line_of j) j.evidence.ranks j.evidence.low_rank j.evidence.low_vector x) w
-
-numbers_of : (item : Item) → IsItem item → AreNumbers (line_of item)
-numbers_of item is = record { num = is.num; den = is.den; low = is.low; high = is.high }
 
 record IsSameRank (m n : ℕ) (p q : List ℕ) : Type 0 where
   rank : m ≡ n

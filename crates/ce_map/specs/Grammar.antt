@@ -8,6 +8,7 @@ use Rattle.std.specs.List.{concat, flat_map}
 use Rattle.ce_angle.specs.Fraction.{Fraction}
 use Rattle.ce_angle.specs.Spelled.{fraction_text}
 use Rattle.ce_cert.specs.Certificate.{Evidence}
+use Rattle.ce_rows.specs.Limits.{greatest_order}
 use Rattle.ce_map.specs.Digits.{IsNumber, numbers_text}
 
 -- the version, the greatest denominator of the angles, and the exponent of the scale
@@ -17,7 +18,7 @@ pub record Header : Type 0 where
   pub exponent : ℕ
 
 abbrev pub most_order : ℕ → ℕ
-most_order version = if version == 1 then 64 else 128
+most_order version = if version == 1 then 64 else greatest_order
 
 -- Version 1 has the scale 2^32 alone.
 pub record IsHeader (h : Header) : Type 0 where

@@ -6,6 +6,7 @@ ghost use Rattle.ce_map.specs.Digits.{IsNumber, numbers_text};
 ghost use Rattle.ce_map.specs.Grammar.{IsHeader, IsItem, Item, header_line, item_text, end_line};
 ghost use Rattle.ce_map.specs.Grammar.{angle_line, ranks_line, low_line, high_line};
 ghost use Rattle.ce_map.specs.PartGrammar.{IsPartHeader, part_line};
+ghost use Rattle.ce_rows.specs.Limits.{greatest_order};
 
 use crate::pieces::{put, put_entry, put_field, put_rank, whole};
 use ce_angle::Angle;
@@ -147,7 +148,7 @@ fn put_end(text: &mut Vec<u8>, count: u32) -> Result<(), NoMemory>
 /// was.
 pub fn append_header(text: &mut Vec<u8>, order: u32, scale: Scale) -> Result<(), NoMemory>
     requires some { 1 ≤ order }
-    requires few { order ≤ 128 }
+    requires few { order ≤ greatest_order }
     ensures ok { OnOk result (text.new.items
         ≡ text.old.items ++ header_line (record { version = 2; order = order; exponent = scale })) }
     ensures header { IsHeader (record { version = 2; order = order; exponent = scale }) }
@@ -162,7 +163,7 @@ pub fn append_header(text: &mut Vec<u8>, order: u32, scale: Scale) -> Result<(),
 /// Its items and its end are those of a map.
 pub fn append_part_header(text: &mut Vec<u8>, order: u32, scale: Scale) -> Result<(), NoMemory>
     requires some { 1 ≤ order }
-    requires few { order ≤ 128 }
+    requires few { order ≤ greatest_order }
     ensures ok { OnOk result (text.new.items
         ≡ text.old.items ++ part_line (record { version = 2; order = order; exponent = scale })) }
     ensures header { IsPartHeader (record { version = 2; order = order; exponent = scale }) }
@@ -173,8 +174,8 @@ pub fn append_part_header(text: &mut Vec<u8>, order: u32, scale: Scale) -> Resul
     whole(text, len, put)
 }
 
-/// Appends an item of version 2, or leaves the text as it was. The lists have one length, which is
-/// not 0, and all numbers are below 2^62.
+/// Appends an item of version 2, or leaves the text as it was. No list is empty, and all numbers
+/// are below 2^62.
 pub fn append_item(text: &mut Vec<u8>, angle: Angle, cert: &CertView<'_>) -> Result<(), NoMemory>
     requires { IsItem (record { angle = angle; evidence = evidence_of cert.now }) }
     ensures ok { OnOk result (text.new.items

@@ -1,5 +1,5 @@
 // The text of an item that is read from a map, as one of version 2.
-ghost use Rattle.std.specs.Prelude.{◌≡◌, ◌++◌, ℕ, List, OnOk, OnErr, codes};
+ghost use Rattle.std.specs.Prelude.{◌≡◌, ◌++◌, ℕ, List, OnOk, OnErr};
 ghost use Rattle.ce_map.specs.AppendInside.{Extends};
 ghost use Rattle.ce_map.specs.Digits.{numbers_text};
 ghost use Rattle.ce_map.specs.Grammar.{Item, high_line, item_text, low_line, ranks_line};

@@ -118,9 +118,6 @@ module _ (bytes : List ℕ) (items : List Item) (group : List Entry) (zip : AllZ
   both_down : (i : Item) (e : Entry) → Rel i e → HasBoth items i → BothEnds e
   both_down i e is h = (low_down i e is h.0, high_down i e is h.1)
 
-  abbrev along : (e : Entry) (Q : Entry → Type 0) → IsFirst Q group e → Type 0
-  along e Q f = AllZip Rel items (f.before ++ (e ∷ f.after))
-
   pub group_one : (e : Entry) → IsFirst BothEnds group e → (i : Item) × IsEntryOf bytes i e × AreKept items (i ∷ [])
   group_one e f =
       let first = zip_first Rel (HasBoth items) BothEnds both_up both_down items f.before f.after e

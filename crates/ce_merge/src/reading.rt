@@ -11,7 +11,8 @@ ghost use Rattle.ce_map.specs.Views.{Shows};
 ghost use Rattle.ce_merge.specs.Flaws.{IsItemCause, MayFollow};
 ghost use Rattle.ce_merge.specs.ReadingInside.{IsItemLook, IsLastKey, IsShown, key_of};
 ghost use Rattle.ce_merge.specs.ReadingInside.{IsFound, IsFurther, IsHeaderCause, IsInPart};
-ghost use Rattle.ce_merge.specs.ReadingInside.{IsPartEnd, header_at, header_of};
+ghost use Rattle.ce_merge.specs.ReadingInside.{IsPartEnd, header_at};
+ghost use Rattle.ce_rows.specs.Limits.{greatest_order};
 
 use crate::MergeCause;
 use crate::entry::Entry;
@@ -80,7 +81,7 @@ fn angle_up_to(num: u64, den: u64, order: u32) -> Option<Angle>
 
 // The key of a fraction that may follow items of which the last has a key, if it may.
 fn key_after(num: u64, den: u64, order: u32, last: u64) -> Option<u64>
-    requires { order ≤ 128 }
+    requires { order ≤ greatest_order }
     ensures some { IfSome result (λ key. key ≡ key_of (record { num = num; den = den })) }
     ensures up { OnSome result (IsAngleUpTo order (record { num = num; den = den })) }
     ensures follows { (items : List Item) → IsLastKey order items last
@@ -107,7 +108,7 @@ fn look_at(
     scale: Scale,
     last: u64,
 ) -> Result<Result<u64, MergeCause>, NoMemory>
-    requires few { order ≤ 128 }
+    requires few { order ≤ greatest_order }
     requires shown { IsShown item.now }
     ensures { (items : List Item) (shown : Item) → Shows 2 shown item.now
         → IsLastKey order items last → IfOk result (IsItemLook order scale items shown) }
@@ -159,7 +160,7 @@ fn read_part(
     scale: Scale,
     entries: &mut Vec<Entry>,
 ) -> Result<PartEnd, NoMemory>
-    requires few { order ≤ 128 }
+    requires few { order ≤ greatest_order }
     requires short { length view.old.bytes < 2 ^ 63 }
     requires begun { IsInPart (header_at order scale) view.old entries.old.items 0 0 }
     ensures end { IfOk result (IsPartEnd (header_at order scale) view.old.bytes entries.new.items) }

@@ -1,8 +1,8 @@
 -- The order of keys tells all keys apart.
-use Rattle.std.proofs.Common.{◌≡◌, Ordering, Less, Equal, Greater, ℕ, List, [], ◌∷◌, refl, ap, ◌∙◌, arith}
+use Rattle.std.proofs.Common.{◌≡◌, Ordering, Less, Equal, Greater, List, [], ◌∷◌, refl, ap, ◌∙◌}
 use Rattle.std.specs.Ordering.{nat_cmp, ordering_then}
 use Rattle.std.specs.Cmp.Lexicographic.{slice_cmp}
-use Rattle.std.proofs.lemmas.Bool.Decides.{nat_tests}
+use Rattle.ce_angle.proofs.Compared.{cmp-same, same-cmp}
 use Rattle.ce_orbit.specs.declared.symbol.Symbol.{Symbol}
 use Rattle.ce_orbit.specs.declared.symbol.Symbol.TheVariants.{One, Zero, Star}
 use Rattle.ce_orbit.specs.declared.key.KneadKey.{KneadKey}
@@ -29,12 +29,6 @@ symbol_itself One = refl
 symbol_itself Zero = refl
 symbol_itself Star = refl
 
-nat_exact : (a b : ℕ) → nat_cmp a b ≡ Equal → a ≡ b
-nat_exact a b h = grind (arith, nat_tests)
-
-nat_itself : (a : ℕ) → nat_cmp a a ≡ Equal
-nat_itself a = grind (arith, nat_tests)
-
 -- where two answers together are Equal, both are
 then_both : (a b : Ordering) → ordering_then a b ≡ Equal → (a ≡ Equal) × (b ≡ Equal)
 then_both Less b h = absurd (cc)
@@ -58,7 +52,7 @@ order_exact x y h =
     let symbols = slice_cmp symbol_order x.symbols y.symbols in
     let first = then_both (nat_cmp x.preperiod y.preperiod) (ordering_then (nat_cmp x.period y.period) symbols) h in
     let second = then_both (nat_cmp x.period y.period) symbols first.1 in
-    same_key _ _ _ _ _ _ (nat_exact _ _ first.0) (nat_exact _ _ second.0) (symbols_exact _ _ second.1)
+    same_key _ _ _ _ _ _ (same-cmp _ _ first.0) (same-cmp _ _ second.0) (symbols_exact _ _ second.1)
 
 pub order_itself : (x : KneadKey) → key_order x x ≡ Equal
-order_itself x = rw (nat_itself x.preperiod, nat_itself x.period) (symbols_itself x.symbols)
+order_itself x = rw (cmp-same x.preperiod, cmp-same x.period) (symbols_itself x.symbols)

@@ -24,5 +24,5 @@ pub use laws::{
     separated_symbols_are_opposite,
 };
 pub use orbit::{Orbit, OrbitTooLong};
-pub use search::{FirstRepeat, first_repeat, multiplied};
+pub use search::{FirstRepeat, MOST_PLACES, first_repeat, multiplied};
 pub use symbol::Symbol;

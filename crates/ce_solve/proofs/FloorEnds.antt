@@ -8,45 +8,25 @@ use Rattle.std.proofs.lemmas.List.{length-map, get_or_default}
 use Rattle.std.proofs.lemmas.Bool.{cases_lt, eqb-true}
 use Rattle.std.proofs.lemmas.Grind.{div_ceil_times}
 use Rattle.std.proofs.lemmas.Nat.{le-div}
-use Rattle.std.proofs.lemmas.List.Elements.{All-nil, All-cons, All-head, All-tail, All-map, All-filter, All-weaker}
-use Rattle.std.proofs.lemmas.List.Elements.{All-get_or, All-contains, Contains-append_right}
+use Rattle.std.proofs.lemmas.List.Elements.{All-head, All-tail, All-map, All-filter, All-weaker}
+use Rattle.std.proofs.lemmas.List.Elements.{All-get_or, All-contains}
 use Rattle.std.proofs.lemmas.List.Sums.{sum_by-cons}
 use Rattle.std.proofs.Math.Nat.{mul-le-mul_left, mul-le-mul_right}
 use Rattle.ce_rows.specs.Blocks.{IsRanking, has_rank_of, block_successors, block_sum_of}
 use Rattle.ce_rows.specs.Rows.{ScaledRows, AreScaledRows, AreRows, successors_in}
 use Rattle.ce_rows.specs.declared.row.Row.{Row}
+use Rattle.ce_rows.specs.Limits.{most_rounds}
 use Rattle.ce_rows.proofs.Blocks.{entry_at_most, block_sum_at_most}
-use Rattle.ce_vector.specs.PowerIteration.{most_rounds, power_vector}
+use Rattle.ce_vector.specs.PowerIteration.{power_vector}
 use Rattle.ce_vector.proofs.Powers.{length-power_vector, power_round-entry, power_vector-some, power_vector-most}
 use Rattle.ce_vector.proofs.Powers.{power_vector-below}
 use Rattle.ce_cert.specs.Quotients.{quotient_down, quotient_up, vertices_of, least_quotient, low_of, high_of, least}
 use Rattle.ce_cert.specs.Vectors.{IsVectorOf}
 use Rattle.ce_cert.proofs.BoundsOf.{Contains-map, Contains-filter, Contains-range, All-range, All-passing}
+use Rattle.ce_cert.proofs.Shown.{some_least}
 use Rattle.ce_cert.proofs.Extremes.{least_is, greatest_above, greatest_at_most}
 use Rattle.ce_cert.proofs.Sums.{scaled_sums, term_of_part}
 use Rattle.ce_cert.proofs.Vertices.{some_successors, successors_below}
-
--- A list with an element has a least one.
-some_least : (xs : List ℕ) → 0 < length xs → (m : ℕ) × Contains xs m × All (λ y. m ≤ y) xs
-some_least [] some = absurd (omega (arith, some))
-some_least (x ∷ []) some =
-    (x, (0, omega arith, refl), All-cons (λ y. x ≤ y) x [] (omega arith) (All-nil (λ y. x ≤ y)))
-some_least (x ∷ y ∷ xs) some =
-    let rest = some_least (y ∷ xs) (omega arith) in
-    elim (cases_lt rest.0 x) [
-      | inl less ↦ (
-        rest.0,
-        Contains-append_right (x ∷ []) (y ∷ xs) rest.0 rest.1,
-        All-cons (λ z. rest.0 ≤ z) x (y ∷ xs)
-            (omega (arith, less)) rest.2,
-      )
-      | inr more ↦ (
-        x,
-        (0, omega arith, refl),
-        All-cons (λ z. x ≤ z) x (y ∷ xs) (omega arith)
-            (All-weaker (λ z. rest.0 ≤ z) (λ z. x ≤ z) (λ z h. omega (arith, h, more)) (y ∷ xs) rest.2),
-      )
-    ]
 
 least_at_least : (m : ℕ) (xs : List ℕ) → 0 < length xs → All (λ x. m ≤ x) xs → m ≤ least xs
 least_at_least m xs some h =

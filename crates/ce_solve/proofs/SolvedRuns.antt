@@ -12,25 +12,14 @@ use Rattle.ce_vector.specs.PowerIteration.{power_vector}
 use Rattle.ce_vector.specs.Start.{scaled_up}
 use Rattle.ce_words.specs.Views.{rows_of}
 use Rattle.ce_words.specs.declared.view.Run.{Run}
-use Rattle.ce_crew.specs.Rooms.{AreBoundsOf}
 use Rattle.ce_solve.specs.Actors.{IsInitialCertificate}
 use Rattle.ce_solve.specs.ClosingVectors.{IsClosingLow, IsClosingHigh}
-use Rattle.ce_solve.specs.Prepared.{IsPrepared, IsOpenedFor, AreBoundsIn}
+use Rattle.ce_solve.specs.Prepared.{IsPrepared, IsOpenedFor}
+use Rattle.ce_cert.specs.Certificate.{AreBoundsIn}
 use Rattle.ce_solve.specs.SolvedRows.{IsRunOf, IsSolved, closing_in}
 use Rattle.ce_solve.specs.ActorsInside.{IsClosingOf}
 use Rattle.ce_solve.specs.declared.collecting.Solved.{Solved}
 use Rattle.ce_solve.specs.declared.preparing.Prepared.{Prepared}
-
-bounds_of_run : (run : Run) (v : List ℕ) (b : Bounds) → AreBoundsIn (rows_of run) run.ranks v b → AreBoundsOf run v b
-bounds_of_run run v b h = record {
-  low = h.low;
-  low_rank = h.low_rank;
-  high = h.high;
-  occurs = h.occurs;
-  low_shown =
-      h.low_shown;
-  high_shown = h.high_shown;
-}
 
 pub initial_is : (rows : ScaledRows) (rounds : ℕ) (p : Prepared) (run : Run) (c : Certificate)
     → IsPrepared rows rounds p → IsOpenedFor rows p run
@@ -53,7 +42,7 @@ initial_is rows rounds p run c h o ranks low rank high lv hv =
       one_vector = hv ∙ sym lv;
       vector = subst (λ (r : ScaledRows). IsVectorOf r c.low_vector.items) (sym o.rows_are)
           (subst (λ (v : List ℕ). IsVectorOf rows v) (sym lv) h.is_vector);
-      bounds = bounds_of_run run c.low_vector.items b two;
+      bounds = two;
     }
 
 pub run_of_rows : (rows : ScaledRows) (rounds : ℕ) (p : Prepared) (run : Run) → IsPrepared rows rounds p

@@ -3,11 +3,9 @@
 -- IsPrepared     components, a vector of power iteration, and its bounds (`prepare`)
 -- IsOpenedFor    the start of a run on these: the vector scaled up, the bounds as initial enclosure
 --                (`open_board`, clause `run`)
-use Rattle.std.specs.Prelude.{◌≡◌, ◌*◌, ◌^◌, ◌<◌, ◌≤◌, ℕ, List, All, Contains}
-use Rattle.ce_cert.specs.Certificate.{IsLowVector, IsHighVector}
-use Rattle.ce_cert.specs.Quotients.{low_of, low_rank_of, high_of}
+use Rattle.std.specs.Prelude.{◌≡◌, ◌*◌, ◌^◌, ◌<◌, ◌≤◌, ℕ, All}
+use Rattle.ce_cert.specs.Certificate.{AreBoundsIn}
 use Rattle.ce_cert.specs.Vectors.{IsVectorOf}
-use Rattle.ce_cert.specs.declared.ends.Bounds.{Bounds}
 use Rattle.ce_comp.specs.Numbering.{IsNumbering}
 use Rattle.ce_rows.specs.Blocks.{IsRanking}
 use Rattle.ce_rows.specs.Rows.{ScaledRows, AreScaledRows, EnclosesRows}
@@ -17,16 +15,6 @@ use Rattle.ce_words.specs.Views.{rows_of}
 use Rattle.ce_words.specs.declared.view.Run.{Run}
 use Rattle.ce_crew.specs.Gains.{IsRunStart}
 use Rattle.ce_solve.specs.declared.preparing.Prepared.{Prepared}
-use Rattle.ce_rows.specs.Limits.{number_limit}
-
--- Bounds are the Collatz-Wielandt bounds of a vector, which shows them.
-pub record AreBoundsIn (rows : ScaledRows) (ranks vector : List ℕ) (b : Bounds) : Type 0 where
-  pub low : b.low ≡ low_of rows ranks vector
-  pub low_rank : b.low_rank ≡ low_rank_of rows ranks vector
-  pub high : b.high ≡ high_of rows ranks vector
-  pub occurs : Contains ranks b.low_rank
-  pub low_shown : IsLowVector rows ranks b.low_rank vector b.low
-  pub high_shown : b.high < number_limit → IsHighVector rows ranks vector b.high
 
 -- The components of rows, their vector of power iteration, and its bounds.
 pub record IsPrepared (rows : ScaledRows) (rounds : ℕ) (p : Prepared) : Type 0 where

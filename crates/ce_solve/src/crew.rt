@@ -1,5 +1,5 @@
 // Workers and sessions side by side.
-ghost use Rattle.std.specs.Prelude.{◌≡◌, ◌<◌, ℕ, All, length, slice_index_or};
+ghost use Rattle.std.specs.Prelude.{◌<◌, ℕ, All, length, slice_index_or};
 ghost use Rattle.ce_words.specs.Seats.{board_run};
 ghost use Rattle.ce_crew.specs.Gains.{IsGraphOf};
 ghost use Rattle.ce_solve.specs.Actors.{CanRun, HasRun};

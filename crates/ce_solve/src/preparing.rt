@@ -1,11 +1,13 @@
 // What a run begins with: the strongly connected components, the vector of power iteration, and its
 // bounds, which are the initial enclosure.
-ghost use Rattle.std.specs.Prelude.{◌≡◌, ◌*◌, ◌^◌, ◌≤◌, IfOk, length};
+ghost use Rattle.std.specs.Prelude.{◌≡◌, ◌≤◌, IfOk, length};
 ghost use Rattle.ce_cert.specs.Vectors.{IsVectorOf};
 ghost use Rattle.ce_rows.specs.Blocks.{IsRanking};
-ghost use Rattle.ce_rows.specs.Rows.{AreScaledRows, IsLowerBoundOf, IsUpperBoundOf};
-ghost use Rattle.ce_vector.specs.PowerIteration.{most_rounds, power_vector};
-ghost use Rattle.ce_solve.specs.Prepared.{IsPrepared, AreBoundsIn};
+ghost use Rattle.ce_rows.specs.Rows.{IsLowerBoundOf, IsUpperBoundOf};
+ghost use Rattle.ce_rows.specs.Limits.{most_rounds};
+ghost use Rattle.ce_vector.specs.PowerIteration.{power_vector};
+ghost use Rattle.ce_solve.specs.Prepared.{IsPrepared};
+ghost use Rattle.ce_cert.specs.Certificate.{AreBoundsIn};
 
 use ce_cert::{Bounds, bounds};
 use ce_comp::{Ranks, components};

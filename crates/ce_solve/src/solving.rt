@@ -1,23 +1,19 @@
 // A whole run over rows.
-ghost use Rattle.std.specs.Prelude.{◌≡◌, ◌<◌, ◌≤◌, ◌+◌, ◌-◌, ◌*◌, ◌^◌, ◌/◌, ℕ, [], IfOk, All, length, slice_index_or};
+ghost use Rattle.std.specs.Prelude.{◌≡◌, ◌<◌, ◌≤◌, ◌+◌, ◌-◌, ◌*◌, ◌/◌, ℕ, [], IfOk, OnErr, All, length};
 ghost use Rattle.std.specs.Prelude.{vec_capacity};
 ghost use mathlib.Core.Option.{some};
 ghost use lib.ListN.{get_elem?};
 ghost use Rattle.ce_words.specs.Seats.{board_run, Sits};
 ghost use Rattle.ce_words.specs.Views.{view, opened};
-ghost use Rattle.ce_words.specs.declared.view.Place.{Place};
-ghost use Rattle.ce_words.specs.declared.view.Role.TheVariants.{First};
-ghost use Rattle.ce_crew.specs.Gains.{IsRunStart, IsGraphOf};
 ghost use Rattle.ce_solve.specs.ChaoticRun.{part_of};
 ghost use Rattle.ce_solve.specs.SolvedRows.{AreReadingsFrom, IsSolved, closing_in};
 ghost use Rattle.ce_solve.specs.ActorsInside.{IsClosingOf, IsHired, IsSeatedSession, ArePartsFrom, AreSessionsFrom};
 ghost use Rattle.ce_solve.specs.ActorsInside.{sessions_in};
 ghost use Rattle.ce_rows.specs.Rows.{most_rows};
-ghost use Rattle.ce_vector.specs.PowerIteration.{most_rounds};
-ghost use Rattle.ce_solve.specs.Limits.{most_turns, most_workers, most_sessions, most_reads};
+ghost use Rattle.ce_rows.specs.Limits.{most_reads, most_rounds, most_sessions, most_turns, most_workers};
 ghost use Rattle.ce_solve.specs.Prepared.{IsPrepared, IsOpenedFor, IsRunFor};
 ghost use Rattle.ce_words.specs.Views.{cut_left};
-ghost use Rattle.ce_solve.specs.Actors.{worker_places, readings_of, IsHiredWorker, IsFirstBelow, IsFirstSeat};
+ghost use Rattle.ce_solve.specs.Actors.{worker_places, IsHiredWorker, IsFirstBelow, IsFirstSeat};
 ghost use Rattle.ce_solve.specs.Actors.{IsInitialCertificate};
 
 use crate::collecting::{Solved, collect};
@@ -86,6 +82,7 @@ pub fn hire(
     ensures hired { IfOk result (IsHiredWorker board.now prepared.now.vector.items turns) }
     ensures part { IfOk result (λ w. (view w.seat).place.part ≡ part) }
     ensures number { IfOk result (λ w. w.number ≡ k) }
+    ensures same { OnErr result (first.new ≡ first.old) }
 {
     let room = WorkRoom::new(alloc, &prepared.vector, prepared.bounds)?;
     let seat = board.split(first, part);

@@ -1,7 +1,7 @@
 // Whole runs with worked numbers, readings in their order, and actors that run side by side.
 ghost use Rattle.std.specs.Prelude.{◌≤◌, IfOk};
-ghost use Rattle.ce_vector.specs.PowerIteration.{most_rounds};
-ghost use Rattle.ce_solve.specs.Limits.{AreWithinLimits, most_turns, most_workers, most_sessions, most_reads};
+ghost use Rattle.ce_solve.specs.Limits.{AreWithinLimits};
+ghost use Rattle.ce_rows.specs.Limits.{most_reads, most_rounds, most_sessions, most_turns, most_workers};
 
 use crate::{Settings, SolveError, Solved, solve};
 use ce_angle::Angle;

@@ -15,16 +15,6 @@ pub record IsIndexOf (keys : List KneadKey) (i : ℕ) (first : List ℕ) (known 
       → (c < length first) × ((d : KneadKey) → get_or keys (get_or first c 0) d ≡ q)
   pub missing : (q : KneadKey) → known q ≡ None → (j : ℕ) (d : KneadKey) → j < i → get_or keys j d ≢ q
 
-pub index-none : (keys : List KneadKey) (known : KneadKey → Option ℕ) → ((q : KneadKey) → known q ≡ None)
-    → IsIndexOf keys 0 [] known
-index-none keys known none = record {
-  found = λ q c h. absurd (none_some (sym (none q) ∙ h));
-  missing = λ q h j d less. absurd (omega arith);
-}
-  where
-    none_some : {c : ℕ} → None ≡ Some c → ⊥
-    none_some h = cc
-
 module _ (keys : List KneadKey) (i : ℕ) (first : List ℕ) (known : KneadKey → Option ℕ)
     (h : IsIndexOf keys i first known) (key : KneadKey) (here : (d : KneadKey) → get_or keys i d ≡ key) where
   -- A key that was found stands at one more place.

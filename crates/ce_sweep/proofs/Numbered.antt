@@ -5,7 +5,7 @@ use Rattle.std.proofs.Common.{get_or, refl, sym, ap, arith, length-append}
 use Rattle.std.proofs.lemmas.Bool.{cases_lt}
 use Rattle.std.proofs.Math.ListN.{get_or-append}
 use Rattle.std.proofs.Math.Seq.{get_or-append_seam}
-use Rattle.ce_sweep.specs.Classes.{IsFirstPlace, AreNumberedBy}
+use Rattle.ce_sweep.specs.Classes.{IsFirstPlace}
 
 -- a list with one more number
 pub more-length : (ns : List ℕ) (n i : ℕ) → length ns ≡ i → length (ns ++ n ∷ []) ≡ i + 1
@@ -27,30 +27,9 @@ module _ {X : Type 0} (list : List X) where
         → (get_or of j 0 ≡ get_or of k 0) ↔ (get_or list j d ≡ get_or list k d)
     pub first_places : (c : ℕ) → c < length first → IsFirstPlace of c (get_or first c 0)
 
-  pub numbered-none : AreNumberedTo 0 [] []
-  numbered-none = record {
-    within = omega arith;
-    each = refl;
-    below = λ k h. absurd (omega arith);
-    alike = λ j k d h less. absurd (omega arith);
-    first_places = λ c h. absurd (omega arith);
-  }
-
-  pub numbered-all : (of first : List ℕ) → AreNumberedTo (length list) of first
-      → AreNumberedBy (λ x y. x ≡ y) list of first
-  numbered-all of first h = record {
-    each = h.each;
-    below = λ k less. h.below k (let each = h.each in omega arith);
-    alike = h.alike;
-    first_places = h.first_places;
-  }
-
   -- an element that has been met: its class is c
   module _ (i c : ℕ) (of first : List ℕ) (h : AreNumberedTo i of first) (within : i < length list)
       (known : c < length first) (met : (d : X) → get_or list (get_or first c 0) d ≡ get_or list i d) where
-    place : ℕ
-    place = get_or first c 0
-
     is_place : IsFirstPlace of c (get_or first c 0)
     is_place = h.first_places c known
 

@@ -2,20 +2,14 @@
 use Rattle.std.proofs.Common.{◌≡◌, ◌<◌, ◌+◌, ℕ, zero, suc, List, [], ◌∷◌, ◌++◌, length, get_or, take, refl, ap, arith}
 use Rattle.std.specs.List.{AllZip}
 use Rattle.std.proofs.lemmas.List.{take_more}
+use Rattle.ce_rows.proofs.General.{zip_push}
 
 module _ {X Y : Type 0} (R : X → Y → Type 0) where
-  push_both : (xs : List X) (ys : List Y) (x : X) (y : Y) → AllZip R xs ys → R x y
-      → AllZip R (xs ++ x ∷ []) (ys ++ y ∷ [])
-  push_both [] [] x y h r = (r, tt)
-  push_both [] (b ∷ ys) x y h r = absurd h
-  push_both (a ∷ xs) [] x y h r = absurd h
-  push_both (a ∷ xs) (b ∷ ys) x y h r = (h.0, push_both xs ys x y h.1 r)
-
   -- one more element of the first list, and its partner
   pub zip_more : (xs : List X) (ys : List Y) (i : ℕ) (d : X) (y : Y) → i < length xs → AllZip R (take i xs) ys
       → R (get_or xs i d) y → AllZip R (take (i + 1) xs) (ys ++ y ∷ [])
   zip_more xs ys i d y within h r =
-      rw (take_more xs i d within) (push_both (take i xs) ys (get_or xs i d) y h r)
+      rw (take_more xs i d within) (zip_push R (take i xs) ys (get_or xs i d) y h r)
 
   pub zip-length : (xs : List X) (ys : List Y) → AllZip R xs ys → length xs ≡ length ys
   zip-length [] [] h = refl

@@ -1,5 +1,5 @@
 // One answer for each angle of a list: one run for each class, and its copies.
-ghost use Rattle.std.specs.Prelude.{◌≡◌, ◌<◌, ◌≤◌, ◌^◌, ℕ, length, map, IfOk, OnOk, All, slice_index, slice_index_or};
+ghost use Rattle.std.specs.Prelude.{◌≡◌, ◌<◌, ◌≤◌, ◌^◌, length, map, IfOk, OnOk, All};
 ghost use Rattle.std.specs.List.{AllZip, Any};
 ghost use Rattle.ce_angle.specs.Farey.{IsAngleUpTo};
 ghost use Rattle.ce_orbit.specs.Kneading.{IsKey};
@@ -12,6 +12,7 @@ ghost use Rattle.ce_sweep.specs.Answers.{AreAlike, AreSolvedBy, AreSweptBy};
 ghost use Rattle.ce_sweep.specs.AnswersInside.{AreCopies, MaySolveKey, SolvesKey, StandsAt};
 ghost use Rattle.ce_solve.specs.declared.settings.Settings.{Settings};
 ghost use Rattle.ce_orbit.specs.Iterates.{most_places};
+ghost use Rattle.ce_rows.specs.Limits.{greatest_order};
 
 use crate::Classes;
 use crate::angle_list::angles_up_to;
@@ -25,7 +26,7 @@ use ce_solve::{Answer, Settings, SolveError, Solved, solve_rows};
 use ce_thurston::rows_of_key;
 use ce_words::Gate;
 use rayon::prelude::*;
-use std::alloc::{AllocError, Global};
+use std::alloc::Global;
 use std::marker::Sync;
 use std::thread::Threads;
 
@@ -116,7 +117,7 @@ fn solve_by_keys<R: Threads + Sync, G: Gate + Sync>(
 }
 
 /// The classes of a list of angles with one solution for each class, which serves each angle of the
-/// class. Each class is solved once, by as many threads as there are processors.
+/// class. The classes are handed to `rayon`, which solves them side by side.
 pub fn solve_classes<R: Threads + Sync, G: Gate + Sync>(
     rt: &R,
     alloc: Global,
@@ -253,7 +254,7 @@ pub fn sweep<R: Threads + Sync, G: Gate + Sync>(
     gate: &G,
 ) -> Result<Vec<Answer>, NoMemory>
     requires some { 0 < order }
-    requires few { order ≤ 128 }
+    requires few { order ≤ greatest_order }
     requires settings { AreWithinLimits settings }
     ensures answers { IfOk result (λ v. AreSweptBy settings order v.items) }
     ensures alike { IfOk result (λ v. AreAlike v.items) }

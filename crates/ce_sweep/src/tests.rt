@@ -1,4 +1,5 @@
-// Classes of the first angles, by hand from their kneading sequences.
+// Classes of the first angles, by hand from their kneading sequences; the counts of the orders 64
+// and 128 are those of a count apart from this program.
 ghost use Rattle.ce_solve.specs.Limits.{AreWithinLimits};
 
 use crate::{angles_up_to, classes, probe_angles, solve_classes, solve_list, solve_probe, sweep};

@@ -7,6 +7,7 @@
 #![tactic(auto)]
 
 mod iteration;
+mod laws;
 mod relaxation;
 mod relaxer;
 mod start;
@@ -14,6 +15,7 @@ mod start;
 mod tests;
 
 pub use iteration::{lazy_round, lazy_rounds};
+pub use laws::doublings_are_the_most;
 pub use relaxation::{relax, shift};
 pub use relaxer::Relaxer;
 pub use start::scale_start;

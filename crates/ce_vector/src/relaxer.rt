@@ -1,8 +1,8 @@
 // Relaxation of many entries between one pair of bounds.
 //
-// Source: [GranlundMontgomery1994], division by an invariant integer by multiplication. One division
-// makes the reciprocal of the divisor, rounded down; an entry then costs a multiplication, and its
-// quotient is one too small at most, which the remainder tells.
+// Source: [GranlundMontgomery1994], division by an invariant integer by multiplication. One
+// division makes the reciprocal of the divisor, rounded down; an entry then costs a multiplication,
+// and its quotient is one too small at most, which the remainder tells.
 ghost use Rattle.std.specs.Prelude.{◌≡◌, ◌≤◌, ◌*◌, ◌^◌};
 ghost use Rattle.ce_vector.specs.Relaxation.{relaxed};
 ghost use Rattle.ce_rows.specs.Limits.{entry_limit};
@@ -54,8 +54,8 @@ impl Relaxer {
         }
     }
 
-    /// One normalized step of the iteration at an entry x with the block sum s, as `relax`, without a
-    /// division.
+    /// One normalized step of the iteration at an entry x with the block sum s, as `relax`, without
+    /// a division.
     pub fn relax(&self, x: u64, s: u64) -> u64
         requires entry { x ≤ entry_limit }
         requires sum { s ≤ 2 ^ 61 }

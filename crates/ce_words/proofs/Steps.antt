@@ -3,7 +3,7 @@ use Rattle.std.proofs.Common.{◌≡◌, ℕ, ◌≤◌, ◌≢◌, List, [], �
 use Rattle.std.proofs.Common.{ap, ◌∙◌, subst, ⊎_elim, arith}
 use mathlib.Core.Logic.{dite}
 use mathlib.Core.Option.{some}
-use native.Mathlib.Decide.{ℕ_discrete, dec_le}
+use native.Mathlib.Decide.{ℕ_discrete}
 use lib.ListN.{get_elem?}
 use Rattle.atomic_table.proofs.Lists.{at_set}
 use Rattle.ce_rows.proofs.Rates.{low_at_most_high_of_rows}
@@ -30,16 +30,7 @@ use Rattle.ce_words.proofs.Held.{views_held}
 use Rattle.ce_words.proofs.Logs.{kept-snoc, last_count-snoc, in_part_of, Fits, Widens, possible_more, possible_snoc}
 use Rattle.ce_words.proofs.Owners.{owners}
 use Rattle.ce_words.proofs.Sums.{sum-set}
-
-greater_of : (P : ℕ → Type 0) (a b : ℕ) → P a → P b → P (max a b)
-greater_of P a b pa pb =
-    dite (dec_le a b) (λ le. let same : max a b ≡ b = omega arith in subst P (sym same) pb)
-    (λ gt. let same : max a b ≡ a = omega arith in subst P (sym same) pa)
-
-lesser_of : (P : ℕ → Type 0) (a b : ℕ) → P a → P b → P (min a b)
-lesser_of P a b pa pb =
-    dite (dec_le a b) (λ le. let same : min a b ≡ a = omega arith in subst P (sym same) pa)
-    (λ gt. let same : min a b ≡ b = omega arith in subst P (sym same) pb)
+use Rattle.ce_rows.proofs.General.{greater_of, lesser_of}
 
 -- The bounds narrow and the count rises.
 pub record Moves (s t : Shared) : Type 0 where

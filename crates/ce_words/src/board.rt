@@ -1,10 +1,10 @@
 // The words of a run: word 0 is the low bound, word 1 the high bound, word 2 the count of
 // rescalings that were asked for, word 3 the stop word, and word 4 + i the entry i.
-ghost use Rattle.std.specs.Prelude.{◌≡◌, ◌∷◌, ◌≤◌, ◌<◌, ◌+◌, ◌^◌, true, IfOk, ℕ, length, slice_index, if◌then◌else◌};
+ghost use Rattle.std.specs.Prelude.{◌≡◌, ◌∷◌, ◌≤◌, ◌<◌, ◌+◌, true, IfOk, ℕ, length, slice_index, if◌then◌else◌};
 ghost use Rattle.ce_cert.specs.Start.{IsStart};
 ghost use Rattle.ce_rows.specs.Rows.{EnclosesRows, IsLowerBoundOf, IsUpperBoundOf};
 ghost use Rattle.ce_rows.specs.declared.act.Act.TheVariants.{Loads, Relaxes, Shrinks, LoadsLow, LoadsHigh, Raises};
-ghost use Rattle.ce_rows.specs.declared.act.Act.TheVariants.{Lowers, LoadsShift, Asks, LoadsStop, Stops};
+ghost use Rattle.ce_rows.specs.declared.act.Act.TheVariants.{Lowers, LoadsShift, LoadsStop, Stops};
 ghost use Rattle.ce_words.specs.Logs.{is_raise, is_lower, is_ask, is_stop, times, halts, last_value, in_part};
 ghost use Rattle.ce_words.specs.Logs.{by_place, Each};
 ghost use Rattle.ce_words.specs.Views.{run_of, rows_of, view, opened, noted, logged, seen_low, seen_high, cut_left};
@@ -166,10 +166,8 @@ impl Board {
         ensures raised { low ≤ result }
         ensures seen { seen_low (view seat.old) ≤ result }
     {
-        self.table
-            .shared
-            .fetch_max::<RaiseLow>(seat, 0, low)
-            .max(low)
+        let before = self.table.shared.fetch_max::<RaiseLow>(seat, 0, low);
+        before.max(low)
     }
 
     /// Lowers the high bound to a proved one, if that is less, and answers the high bound after the
@@ -184,10 +182,8 @@ impl Board {
         ensures lowered { result ≤ high }
         ensures seen { result ≤ seen_high (view seat.old) }
     {
-        self.table
-            .shared
-            .fetch_min::<LowerHigh>(seat, 1, high)
-            .min(high)
+        let before = self.table.shared.fetch_min::<LowerHigh>(seat, 1, high);
+        before.min(high)
     }
 
     /// One load of an entry: a value that it held, and of an own entry the one last stored.

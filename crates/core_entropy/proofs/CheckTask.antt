@@ -1,5 +1,5 @@
 -- The tasks that read a map and answer its verdict.
-use Rattle.std.proofs.Common.{◌≡◌, ◌≤◌, ◌∙◌, inl, inr, ℕ, List, [], Option, length, refl, sym, ap}
+use Rattle.std.proofs.Common.{◌≡◌, ◌≤◌, ◌∙◌, inr, ℕ, List, [], Option, length, refl, sym, ap}
 use Rattle.std.proofs.Common.{subst, arith, map}
 use Rattle.std.specs.Prelude.{All}
 use Rattle.std.proofs.lemmas.List.Elements.{All-map, All-nil, All-weaker}
@@ -8,9 +8,9 @@ use Rattle.ce_check.specs.Verdicts.{IsVerdict}
 use Rattle.ce_check.specs.declared.verdict.Verdict.{Verdict}
 use Rattle.ce_check.specs.declared.verdict.Verdict.TheVariants.{Accepted, Refused}
 use Rattle.ce_check.proofs.OneVerdict.{one_verdict}
-use Rattle.ce_check.proofs.OrbitRows.{certified_encloses}
+use Rattle.ce_check.proofs.OrbitRows.{certified_encloses, exponent_of}
 use Rattle.ce_check.proofs.SomeVerdict.{some_verdict}
-use Rattle.ce_map.specs.Grammar.{Header, IsHeader, IsMapOf, Item}
+use Rattle.ce_map.specs.Grammar.{IsMapOf, Item}
 use Rattle.ce_rows.specs.Scale.{IsExponent}
 use Rattle.core_entropy.specs.Calls.{CallsFor}
 use Rattle.core_entropy.specs.Checked.{EndsByVerdict, VerdictClaims, item_claim, map_limit, status_of, verdict_task}
@@ -22,12 +22,6 @@ use Rattle.core_entropy.specs.declared.status.Status.{Status}
 use Rattle.core_entropy.proofs.DegreeClaims.{doubling_true}
 use Rattle.core_entropy.proofs.Ended.{answered, wrote_weaker}
 use Rattle.core_entropy.proofs.Stages.{IsLawful}
-
-pub known_exponent : (h : Header) → IsHeader h → IsExponent h.exponent
-known_exponent h is = elim is.scale [
-  | inl first ↦ inl first
-  | inr second ↦ inr second.1
-]
 
 pub item_true : (exponent : ℕ) → IsExponent exponent → (item : Item) → IsCertified exponent item
     → IsTrueClaim (item_claim exponent item)
@@ -42,7 +36,7 @@ verdict_claims bytes (Refused line cause) is = ([], refl, All-nil IsTrueClaim)
 verdict_claims bytes (Accepted count) is =
     let h = is.header in
     let spelled : IsMapOf bytes h is.items count = subst (IsMapOf bytes h is.items) (sym is.counted) is.good.spelled in
-    let known = known_exponent h is.good.spelled.header in
+    let known = exponent_of h is.good.spelled.header in
     let each = All-weaker (IsCertified h.exponent) (λ item. IsTrueClaim (item_claim h.exponent item))
     (item_true h.exponent known) is.items is.good.certified in (
       map (item_claim h.exponent) is.items,

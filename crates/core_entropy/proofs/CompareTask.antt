@@ -7,14 +7,13 @@ use Rattle.ce_atlas.specs.declared.relation.Relation.{Relation}
 use Rattle.ce_atlas.specs.declared.relation.Relation.TheVariants.{Equal, Below, Above, Open}
 use Rattle.ce_orbit.specs.Orbit.{HasOrbitAbove}
 use Rattle.ce_rows.specs.Scale.{IsExponent}
-use Rattle.ce_solve.specs.SolvedAngle.{IsCause, MayAnswer}
+use Rattle.ce_solve.specs.SolvedAngle.{MayAnswer}
 use Rattle.ce_solve.specs.declared.angle.Answer.{Answer}
-use Rattle.ce_solve.specs.declared.angle.SolveError.{SolveError}
-use Rattle.ce_solve.specs.declared.angle.SolveError.TheVariants as error
 use Rattle.ce_solve.specs.declared.settings.Settings.{Settings}
 use Rattle.ce_sweep.specs.Classes.{HaveSameKneading}
 use Rattle.core_entropy.specs.Calls.{CallsFor}
-use Rattle.core_entropy.specs.Compare.{AreAlike, AreCompared, HasLongOrbit, IsCauseOf, IsRelation, compare_line}
+use Rattle.ce_atlas.specs.Relation.{AreAlike}
+use Rattle.core_entropy.specs.Compare.{AreCompared, HasLongOrbit, IsRelation, compare_line}
 use Rattle.core_entropy.specs.Compare.{compare_task}
 use Rattle.core_entropy.specs.Headline.{IsTrueClaim}
 use Rattle.core_entropy.specs.Output.{HasEnded, Wrote}
@@ -22,7 +21,7 @@ use Rattle.core_entropy.specs.ProbeInside.{interval_in}
 use Rattle.core_entropy.specs.Status.{IsCalledFor, IsEndOfAnswer}
 use Rattle.core_entropy.specs.declared.status.Status.{Status}
 use Rattle.core_entropy.specs.declared.status.Status.TheVariants.{Done, OrbitTooLong}
-use Rattle.core_entropy.proofs.AngleTask.{long_or_not, not_long}
+use Rattle.core_entropy.proofs.AngleTask.{long_or_not}
 use Rattle.core_entropy.proofs.Ended.{answered, wrote_weaker}
 use Rattle.core_entropy.proofs.ProbeTask.{initial_of}
 use Rattle.core_entropy.proofs.Stages.{IsLawful, unless_called, unless_one, unless_some}
@@ -61,27 +60,18 @@ module _ (a b : Fraction) (rounds exponent : ℕ) where
         (wrote_weaker taken faults old now IsText (task.Writes [])
         (λ text spelled. record { relation = relation; compared = compared; spelled = spelled }) s wrote)
 
-  -- why it didn't come to that
-  pub cause_of_first : (e : SolveError) → IsCause a e → IsCauseOf a b e
-  cause_of_first error.OrbitTooLong long = inl long
-  cause_of_first error.NoMemory memory = tt
-
-  pub cause_of_second : (e : SolveError) → IsCause b e → IsCauseOf a b e
-  cause_of_second error.OrbitTooLong long = inr long
-  cause_of_second error.NoMemory memory = tt
-
 -- What the ends of two answers say of their angles.
 module _ (x y : Answer) (a b : Fraction) (of_first : x.angle ≡ a) (of_second : y.angle ≡ b) where
   alike : AreEqual x y → AreAlike a b (interval_in x) (interval_in y)
   alike (inl kneading) =
       inl (subst (λ f. HaveSameKneading a f) of_second (subst (λ f. HaveSameKneading f y.angle) of_first kneading))
-  alike (inr ends) = inr (record { first = ends.first; second = ends.second; same = ends.same })
+  alike (inr ends) = inr ends
 
   equal : AreAlike a b (interval_in x) (interval_in y) → AreEqual x y
   equal (inl kneading) =
       inl (subst (λ f. HaveSameKneading x.angle f) (sym of_second)
       (subst (λ f. HaveSameKneading f b) (sym of_first) kneading))
-  equal (inr ends) = inr (record { first = ends.first; second = ends.second; same = ends.same })
+  equal (inr ends) = inr ends
 
   pub relation_is : (r : Relation) → (r ≡ Equal) ↔ AreEqual x y → (r ≡ Below) ↔ (high_of_answer x < low_of_answer y)
       → (r ≡ Above) ↔ (high_of_answer y < low_of_answer x) → IsRelation a b (interval_in x) (interval_in y) r
@@ -105,12 +95,3 @@ module _ (settings : Settings) (still : settings.turns ≡ 0) (few : settings.ro
     second_is = initial_of settings still few known b y second;
     is = relation_is x y a b first.angle second.angle r same below above;
   }
-
-  short_of : (angle : Fraction) (z : Answer) → MayAnswer settings angle z → ¬ (HasOrbitAbove 128 angle)
-  short_of angle z may =
-      let s = may.solved in
-      not_long angle (record { orbit = s.orbit; of_angle = s.of_angle; is_orbit = s.is_orbit; few = s.few })
-
-  pub both_short : ¬ (HasLongOrbit a b)
-  both_short (inl long) = short_of a x first long
-  both_short (inr long) = short_of b y second long

@@ -1,6 +1,6 @@
 -- The task of the command `degree`.
 use Rattle.std.proofs.Common.{length, ◌≡◌, ◌≤◌, ◌∙◌, ℕ, List, []}
-use Rattle.std.proofs.Common.{◌∷◌, refl, sym, subst, arith, Result, String, Global, string_bytes}
+use Rattle.std.proofs.Common.{◌∷◌, refl, sym, subst, Result, String, Global, string_bytes}
 use Rattle.std.specs.Prelude.{IfOk}
 use Rattle.std.proofs.lemmas.Result.{IfOk-weaker}
 use Rattle.std.proofs.lemmas.List.Elements.{All-nil, All-cons}
@@ -8,7 +8,6 @@ use Rattle.ce_angle.specs.Fraction.{Fraction}
 use Rattle.ce_cert.proofs.Enclose.{certificate_encloses}
 use Rattle.ce_degree.specs.DegreeOrbit.{OrbitOfDegree, IsOrbitOfDegree, HasOrbitAbove, portrait_of}
 use Rattle.ce_degree.proofs.DegreePortrait.{portrait_is}
-use Rattle.ce_degree.proofs.OneDegreeOrbit.{longer_is}
 use Rattle.ce_orbit.specs.Orbit.{multiplied}
 use Rattle.ce_orbit.proofs.Exists.{distinct_or_not}
 use Rattle.ce_rows.specs.Growth.{Encloses}
@@ -71,16 +70,6 @@ module _ (degree : ℕ) (angle : Fraction) (rounds turns workers exponent : ℕ)
         called = λ input. unless_called Long OrbitTooLong Next tt (λ s h. subst IsCalledFor (sym h) tt);
         true = degree_true;
       }
-
--- A short orbit is not long.
-pub not_long : (o : OrbitOfDegree) (degree : ℕ) (angle : Fraction) → IsOrbitOfDegree o
-    → o.degree ≡ degree → o.angle ≡ angle
-    → length o.places ≤ 128 → ¬ (HasOrbitAbove 128 degree angle)
-not_long o degree angle is of_degree of_angle few long =
-    let here : HasOrbitAbove 128 o.degree angle = subst (λ d. HasOrbitAbove 128 d angle) (sym of_degree) long in
-    let there : HasOrbitAbove 128 o.degree o.angle = subst (λ a. HasOrbitAbove 128 o.degree a) (sym of_angle) here in
-    let above = (longer_is o 128 is).0 there in
-    omega (arith, above, few)
 
 pub degree_if_spelled : (o : OrbitOfDegree) (degree exponent rounds turns workers : ℕ)
     (angle : Fraction) (rows : ScaledRows)

@@ -1,8 +1,8 @@
 -- How a task ended, from what was written.
-use Rattle.std.proofs.Common.{◌≡◌, ◌≤◌, inl, inr, ℕ, List, Option, Result, Ok, Err, sym, subst, arith}
+use Rattle.std.proofs.Common.{◌≡◌, inl, inr, ℕ, List, Option, Result, Ok, Err, sym, subst}
 use Rattle.std.specs.Prelude.{OnErr}
 use Rattle.std.specs.Result.{IsErrAnd}
-use Rattle.ce_port.specs.Sink.{GrewBy, Rose}
+use Rattle.ce_port.specs.Sink.{GrewBy}
 use Rattle.core_entropy.specs.Calls.{CallsFor}
 use Rattle.core_entropy.specs.Output.{GrewByPart, HasEnded, Wrote}
 use Rattle.core_entropy.specs.Status.{IsCalledFor, IsEndOfAnswer, IsOfWriting, IsStopped, IsUnheard, ended_with}
@@ -69,10 +69,6 @@ module _ {O : Type 0} (taken : O → Option (List ℕ)) (faults : O → ℕ) (ta
       → GrewBy (taken old) (taken now) text → HasEnded taken faults task input Done old now
   ended_done calls text writes grew =
       record { heard = λ none. none; called = λ called. calls; wrote = (text, writes, grew) }
-
--- a count that rose after it did not fall
-pub rose_after : (a b c : ℕ) → a ≤ b → Rose b c → Rose a c
-rose_after a b c h k = omega (arith, h, k)
 
 pub wrote_by : {O : Type 0} (taken : O → Option (List ℕ)) (faults : O → ℕ) (old now : O) (IsText : List ℕ → Type 0)
     (r : Result Unit Status) (s : Status) → IsErrAnd r (λ t. t ≡ s) → Wrote taken faults IsText s old now

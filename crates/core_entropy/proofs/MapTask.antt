@@ -1,5 +1,5 @@
 -- The task of the command `map`.
-use Rattle.std.proofs.Common.{◌≡◌, ◌<◌, ◌≤◌, ◌++◌, ◌∷◌, ◌∙◌, inl, inr, ℕ, List, [], get_or, length, map, refl}
+use Rattle.std.proofs.Common.{◌≡◌, ◌<◌, ◌≤◌, ◌++◌, ◌∙◌, inl, inr, ℕ, List, [], get_or, length, map, refl}
 use Rattle.std.proofs.Common.{sym, ap, subst, arith}
 use Rattle.std.specs.Prelude.{All}
 use Rattle.std.specs.List.{flat_map, range_with_len}
@@ -30,13 +30,9 @@ use Rattle.core_entropy.specs.Map.{IsMapText, IsSolvedItem, header_of, map_task,
 use Rattle.core_entropy.specs.MapInside.{AreItemsOf, no_item}
 use Rattle.core_entropy.specs.Status.{IsCalledFor}
 use Rattle.core_entropy.specs.declared.status.Status.TheVariants.{Done}
+use Rattle.ce_sweep.proofs.Assembled.{some_of}
 use Rattle.core_entropy.proofs.AngleTask.{claim_true, inside_initial}
 use Rattle.core_entropy.proofs.Stages.{IsLawful}
-
--- an element of a list that has one
-some_of : {X : Type 0} (xs : List X) → 0 < length xs → X
-some_of [] h = absurd (omega arith)
-some_of (x ∷ xs) h = x
 
 -- An item that the program solved makes a true claim.
 pub item_true : (rounds turns workers exponent : ℕ) → IsExponent exponent → (item : Item)

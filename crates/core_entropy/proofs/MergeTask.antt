@@ -20,7 +20,8 @@ use Rattle.core_entropy.specs.Output.{HasEnded, Wrote}
 use Rattle.core_entropy.specs.Status.{IsCalledFor, IsEndOfAnswer, IsUnheard}
 use Rattle.core_entropy.specs.declared.status.Status.{Status}
 use Rattle.core_entropy.specs.declared.status.Status.TheVariants.{Done, Refused}
-use Rattle.core_entropy.proofs.CheckTask.{item_true, known_exponent}
+use Rattle.ce_check.proofs.OrbitRows.{exponent_of}
+use Rattle.core_entropy.proofs.CheckTask.{item_true}
 use Rattle.core_entropy.proofs.Ended.{answered, wrote_weaker}
 use Rattle.core_entropy.proofs.Stages.{IsLawful}
 
@@ -51,7 +52,7 @@ kept_true bytes text m =
     let items = all_of m.parts in
     let certified : All (IsCertified h.exponent) items =
     all_parts (IsCertified h.exponent) (IsGoodPart h) (λ part good. good.good.certified) m.parts m.good.good in
-    let known = known_exponent h m.good.header.header in
+    let known = exponent_of h m.good.header.header in
     All-weaker (Contains items) (λ item. IsTrueClaim (item_claim h.exponent item))
     (λ item has. item_true h.exponent known item (All-contains (IsCertified h.exponent) items item certified has))
     m.kept (merged_within items m.kept m.merged)
@@ -78,13 +79,6 @@ module _ {O : Type 0} (taken : O → Option (List ℕ)) (faults : O → ℕ) (by
       let calls : CallsFor merge_task bytes wanted = inr (λ above. omega (arith, fits, above), ends) in
       answered taken faults merge_task bytes wanted old now heard calls s end
       (wrote_weaker taken faults old now IsText (merge_task.Writes bytes) is s wrote)
-
-  pub merged_ended : (text : List ℕ) → IsMergeOf bytes text → IsEndOfAnswer Done s
-      → Wrote taken faults (λ t. t ≡ text) s old now → HasEnded taken faults merge_task bytes s old now
-  merged_ended text m =
-      let good : HasGoodParts bytes = record { header = m.header; parts = m.parts; good = m.good } in
-      ended_by_parts Done (λ none. none) (inl (good, refl)) (λ t. t ≡ text)
-      (λ t same. inl (subst (IsMergeOf bytes) (sym same) m))
 
   pub flawed_ended : (line : ℕ) (cause : MergeCause) → IsFirstFlawOf bytes line cause → IsEndOfAnswer Refused s
       → Wrote taken faults (λ t. t ≡ flaw_line line cause) s old now → HasEnded taken faults merge_task bytes s old now

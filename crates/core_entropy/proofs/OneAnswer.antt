@@ -16,7 +16,8 @@ use Rattle.ce_solve.specs.declared.settings.Settings.{Settings}
 use Rattle.ce_sweep.specs.Classes.{HaveSameKneading}
 use Rattle.ce_thurston.specs.Indices.{rows_at}
 use Rattle.core_entropy.specs.Atlas.{IsAtlasText, still}
-use Rattle.core_entropy.specs.Compare.{AreAlike, IsCompareText, IsRelation, compare_line}
+use Rattle.ce_atlas.specs.Relation.{AreAlike}
+use Rattle.core_entropy.specs.Compare.{IsCompareText, IsRelation, compare_line}
 use Rattle.core_entropy.specs.InitialEnclosure.{IsInitialEnclosure}
 use Rattle.core_entropy.specs.Merge.{IsFlawText, flaw_line}
 use Rattle.core_entropy.specs.Probe.{IsInitialOf}

@@ -3,9 +3,7 @@ use Rattle.std.proofs.Common.{◌≡◌, ◌+◌, ◌⊎◌, inl, inr, ℕ, List
 use Rattle.std.proofs.Common.{length-append}
 use Rattle.std.specs.Prelude.{Result}
 use Rattle.std.specs.Result.{IsErrAnd}
-use Rattle.std.specs.Io.KnownBytes.{Consumes}
 use Rattle.ce_command.specs.Meaning.{command_of}
-use Rattle.ce_command.specs.declared.command.Command.{Command}
 use Rattle.ce_command.specs.declared.words.WordsError.{WordsError}
 use Rattle.ce_command.specs.declared.words.WordsError.TheVariants as words
 use Rattle.ce_port.specs.ReadAll.{Gave}
@@ -15,8 +13,8 @@ use Rattle.core_entropy.specs.Calls.{CallsFor, IsAbove, IsInput, IsToldInput}
 use Rattle.core_entropy.specs.Input.{IsReadStatus}
 use Rattle.core_entropy.specs.Headline.{Headline}
 use Rattle.core_entropy.specs.Output.{GrewByPart, HasEnded, HasEndedOn, HasRead, Wrote}
-use Rattle.core_entropy.specs.Status.{IsCalledFor, IsRefusal, IsUnheard, IsUnlessNoMemory, ended_with, of_words}
-use Rattle.core_entropy.specs.Table.{task_asked, task_if, task_of}
+use Rattle.core_entropy.specs.Status.{IsCalledFor, IsUnheard, IsUnlessNoMemory, ended_with, of_words}
+use Rattle.core_entropy.specs.Table.{task_asked, task_if}
 use Rattle.core_entropy.specs.Task.{Task}
 use Rattle.core_entropy.specs.declared.status.Status.{Status}
 use Rattle.core_entropy.specs.declared.status.Status.TheVariants.{Done, Refused, Usage, Angle, OrbitTooLong, BadEvent}
@@ -61,18 +59,6 @@ module _ {O : Type 0} (taken : O → Option (List ℕ)) (faults : O → ℕ) (Is
   written InputTooLong same = inl (unchanged same)
   written ReadFault same = inl (unchanged same)
 
-  refused_same : (s : Status) → IsRefusal s → Wrote taken faults IsText s old now → now ≡ old
-  refused_same Done refusal wrote = absurd refusal
-  refused_same Refused refusal wrote = absurd refusal
-  refused_same WriteFault refusal wrote = absurd refusal
-  refused_same NoMemory refusal wrote = absurd refusal
-  refused_same Usage refusal same = same
-  refused_same (Angle flaw) refusal same = same
-  refused_same OrbitTooLong refusal same = same
-  refused_same (BadEvent line) refusal same = same
-  refused_same InputTooLong refusal same = same
-  refused_same ReadFault refusal same = same
-
 read_rose : {S : Type 0} (left : S → Option (List ℕ)) (faults : S → ℕ) (limit : Option ℕ) (old now : S)
     → HasRead left faults limit ReadFault old now → Rose (faults old) (faults now)
 read_rose left faults None old now h = absurd h
@@ -80,9 +66,6 @@ read_rose left faults (Some limit) old now h = h.1
 
 module _ {O : Type 0} (taken : O → Option (List ℕ)) (faults : O → ℕ) (task : Task) (left : Option (List ℕ)) (s : Status)
     (old now : O) (ended : HasEndedOn taken faults task left s old now) where
-  pub refused : IsRefusal s → now ≡ old
-  refused refusal = refused_same taken faults (task.Writes ended.input) old now s refusal ended.wrote
-
   module _ (lawful : IsLawful task) where
     pub headline : Headline task left (taken old) (taken now)
     headline = elim (written taken faults (task.Writes ended.input) old now s ended.wrote) [
@@ -114,10 +97,6 @@ some_input None left = ([], refl)
 some_input (Some limit) None = ([], tt)
 some_input (Some limit) (Some bytes) = (bytes, refl)
 
-Consumes-none : (left : Option (List ℕ)) → Consumes left left []
-Consumes-none None = tt
-Consumes-none (Some bytes) = refl
-
 module _ (list : List (List ℕ)) where
   module _ {O : Type 0} (taken : O → Option (List ℕ)) (faults : O → ℕ) (left : Option (List ℕ)) (old : O) where
     -- words that are no command, and words for which memory is refused
@@ -129,26 +108,6 @@ module _ (list : List (List ℕ)) where
     words_ended words.NoMemory none =
         let input = some_input (task_asked list).limit left in
         record { input = input.0; is_input = input.1; called = λ called. absurd called; wrote = inl refl }
-
-    pub command_ended : (now : O) (command : Command) (s : Status) → command_of list ≡ Some command
-        → HasEndedOn taken faults (task_of command) left s old now
-        → HasEndedOn taken faults (task_asked list) left s old now
-    command_ended now command s means = subst (λ o. HasEndedOn taken faults (task_if o) left s old now) (sym means)
-
-  module _ {S : Type 0} (left : S → Option (List ℕ)) (faults : S → ℕ) (old : S) where
-    no_memory_read : (limit : Option ℕ) → HasRead left faults limit NoMemory old old
-    no_memory_read None = refl
-    no_memory_read (Some limit) = (0, omega arith, ([], refl, Consumes-none (left old)))
-
-    pub words_read : (e : WordsError) → (e ≡ words.Usage → command_of list ≡ None)
-        → HasRead left faults (task_asked list).limit (of_words e) old old
-    words_read words.Usage none =
-        subst (λ o. HasRead left faults (task_if o).limit Usage old old) (sym (none refl)) refl
-    words_read words.NoMemory none = no_memory_read (task_asked list).limit
-
-    pub command_read : (now : S) (command : Command) (s : Status) → command_of list ≡ Some command
-        → HasRead left faults (task_of command).limit s old now → HasRead left faults (task_asked list).limit s old now
-    command_read now command s means = subst (λ o. HasRead left faults (task_if o).limit s old now) (sym means)
 
 -- a task that reads nothing
 module _ {O : Type 0} (taken : O → Option (List ℕ)) (faults : O → ℕ) (task : Task) (left : Option (List ℕ))
@@ -185,19 +144,6 @@ module _ {S : Type 0} (left : S → Option (List ℕ)) (faults : S → ℕ) wher
   none_read old (Angle flaw) heard = refl
   none_read old OrbitTooLong heard = refl
   none_read old (BadEvent line) heard = refl
-
-  pub whole_read : (limit : ℕ) (old now : S) (s : Status) → ¬ (IsUnheard s)
-      → HasRead left faults (Some limit) Done old now → HasRead left faults (Some limit) s old now
-  whole_read limit old now ReadFault heard h = absurd (heard tt)
-  whole_read limit old now InputTooLong heard h = absurd (heard tt)
-  whole_read limit old now NoMemory heard h = h.0
-  whole_read limit old now WriteFault heard h = h
-  whole_read limit old now Done heard h = h
-  whole_read limit old now Refused heard h = h
-  whole_read limit old now Usage heard h = h
-  whole_read limit old now (Angle flaw) heard h = h
-  whole_read limit old now OrbitTooLong heard h = h
-  whole_read limit old now (BadEvent line) heard h = h
 
   module _ {O : Type 0} (taken : O → Option (List ℕ)) (out_faults : O → ℕ) (task : Task) (limit : ℕ)
       (is : task.limit ≡ Some limit) (out : O) where
@@ -254,11 +200,6 @@ pub ended_on_by : {O : Type 0} (taken : O → Option (List ℕ)) (faults : O →
     → HasEndedOn taken faults task left s old now → HasEndedOn taken faults task left (ended_with r) old now
 ended_on_by taken faults task left old now r s is =
     subst (λ t. HasEndedOn taken faults task left t old now) (sym (ended_is r s is))
-
-pub read_by : {S : Type 0} (left : S → Option (List ℕ)) (faults : S → ℕ) (limit : Option ℕ) (old now : S)
-    (r : Result Unit Status) (s : Status) → IsErrAnd r (λ t. t ≡ s) → HasRead left faults limit s old now
-    → HasRead left faults limit (ended_with r) old now
-read_by left faults limit old now r s is = subst (λ t. HasRead left faults limit t old now) (sym (ended_is r s is))
 
 -- The arm of a command that reads: its input was not read, or its task ended with what was read.
 module _ {O S : Type 0} (taken : O → Option (List ℕ)) (out_faults : O → ℕ) (left : S → Option (List ℕ)) (faults : S → ℕ)

@@ -1,17 +1,10 @@
 -- Texts in pieces: appended one after another, and written through pages.
-use Rattle.std.proofs.Common.{◌≡◌, ◌++◌, ◌∙◌, ℕ, List, Option, ap, append_assoc, subst, sym}
+use Rattle.std.proofs.Common.{◌≡◌, ◌++◌, ℕ, List, Option, subst, sym}
 use Rattle.ce_port.specs.Pieces.{GrewAllBut}
 use Rattle.ce_port.specs.Sink.{GrewBy}
 use Rattle.ce_port.specs.WriteAll.{GrewByPrefix}
 use Rattle.ce_port.proofs.Paging.{page-more, page-part, page-stays, page-whole, prefix-more}
 use Rattle.core_entropy.specs.Output.{GrewByPart}
-
-pub two_appended : (t u v a b : List ℕ) → u ≡ t ++ a → v ≡ u ++ b → v ≡ t ++ (a ++ b)
-two_appended t u v a b first second = second ∙ ap (λ l. l ++ b) first ∙ append_assoc t a b
-
-pub three_appended : (t u v w a b c : List ℕ) → u ≡ t ++ a → v ≡ u ++ b → w ≡ v ++ c → w ≡ t ++ (a ++ b ++ c)
-three_appended t u v w a b c first second third =
-    two_appended t v w (a ++ b) c (two_appended t u v a b first second) third
 
 -- A text of a head, items that went out in pages, and an end.
 module _ (IsText : List ℕ → Type 0) (start items end : List ℕ) (is : IsText ((start ++ items) ++ end)) where

@@ -1,5 +1,5 @@
 -- The task of the command `part`.
-use Rattle.std.proofs.Common.{◌≡◌, ◌≢◌, ◌<◌, ◌≤◌, ◌-◌, ◌^◌, ◌++◌, ◌⊎◌, ◌∙◌, inl, inr, ℕ, List, [], Option, None}
+use Rattle.std.proofs.Common.{◌≡◌, ◌<◌, ◌≤◌, ◌-◌, ◌^◌, ◌++◌, ◌⊎◌, ◌∙◌, inl, inr, ℕ, List, [], Option}
 use Rattle.std.proofs.Common.{drop, length, length-drop, length-take, map, refl, sym, ap, subst, arith, append_assoc}
 use Rattle.std.specs.Prelude.{All}
 use Rattle.std.specs.List.{flat_map}
@@ -19,8 +19,8 @@ use Rattle.core_entropy.specs.Calls.{CallsFor}
 use Rattle.core_entropy.specs.Headline.{ClaimsTruly, IsTrueClaim}
 use Rattle.core_entropy.specs.Map.{IsSolvedItem, header_of, solved_claim}
 use Rattle.core_entropy.specs.MapInside.{AreItemsOf}
-use Rattle.core_entropy.specs.Output.{HasEnded, HasEndedOn, HasRead, Wrote}
-use Rattle.core_entropy.specs.Part.{AreAtPlaces, HasPlaces, IsPartText, IsRefusedPart, angles_between, part_task}
+use Rattle.core_entropy.specs.Output.{HasEnded, Wrote}
+use Rattle.core_entropy.specs.Part.{AreAtPlaces, HasPlaces, IsPartText, angles_between, part_task}
 use Rattle.core_entropy.specs.Status.{IsCalledFor, IsEndOfAnswer}
 use Rattle.core_entropy.specs.declared.status.Status.{Status}
 use Rattle.core_entropy.specs.declared.status.Status.TheVariants.{Done, Usage}
@@ -142,38 +142,6 @@ module _ (order from to rounds turns workers exponent : ℕ) (angles : List Frac
       let task = part_task order from to rounds turns workers exponent in
       let calls : CallsFor task [] Done = inr (λ above. above, inr (λ none. none at.places, refl)) in
       answered taken faults task [] Done old now (λ none. none) calls s end wrote
-
--- The list doesn't have the places, or memory was refused.
-module _ (order from to : ℕ) (s : Status) where
-  pub refused_ended : {O : Type 0} (taken : O → Option (List ℕ)) (faults : O → ℕ) (left : Option (List ℕ)) (old : O)
-      (rounds turns workers exponent : ℕ) → IsRefusedPart order from to s
-      → HasEndedOn taken faults (part_task order from to rounds turns workers exponent) left s old old
-  refused_ended taken faults left old rounds turns workers exponent (inl (none, is)) =
-      subst (λ t. HasEndedOn taken faults (part_task order from to rounds turns workers exponent) left t old old)
-      (sym is) (record {
-        input = [];
-        is_input = refl;
-        called = λ called. inr (λ above. above, inl (none, refl));
-        wrote = refl;
-      })
-  refused_ended taken faults left old rounds turns workers exponent (inr memory) =
-      subst (λ t. HasEndedOn taken faults (part_task order from to rounds turns workers exponent) left t old old)
-      (sym memory) (record {
-        input = [];
-        is_input = refl;
-        called = λ called. absurd called;
-        wrote = inl refl;
-      })
-
-  pub refused_read : {S : Type 0} (left : S → Option (List ℕ)) (faults : S → ℕ) (old : S)
-      → IsRefusedPart order from to s
-      → HasRead left faults None s old old
-  refused_read left faults old (inl (none, is)) = subst (λ t. HasRead left faults None t old old) (sym is) refl
-  refused_read left faults old (inr memory) = subst (λ t. HasRead left faults None t old old) (sym memory) refl
-
-  pub refused_beyond : IsRefusedPart order from to s → HasPlaces order from to → s ≢ Usage
-  refused_beyond (inl (none, is)) has same = none has
-  refused_beyond (inr memory) has same = let other = sym memory ∙ same in cc
 
 -- The angles at places of the list.
 module _ (order from to : ℕ) (list : List Fraction) (all : AreAnglesUpTo order list) where

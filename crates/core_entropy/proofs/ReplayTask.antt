@@ -150,9 +150,6 @@ module _ (angle : Fraction) (rounds exponent : ℕ) (script : List ℕ) (fits : 
   script_called_for : HasScript angle script → CallsFor (replay_task rounds exponent angle) script Done
   script_called_for has = inr (not_above, inr (not_long angle has.short, inr (has, refl)))
 
-  pub long_called : HasOrbitAbove 128 angle → CallsFor (replay_task rounds exponent angle) script OrbitTooLong
-  long_called long = inr (not_above, inl (long, refl))
-
   module _ {O : Type 0} (taken : O → Option (List ℕ)) (faults : O → ℕ) (old now : O) where
     pub replay_ended : HasScript angle script → (r : Result Unit Status) → IfErr r IsOfWriting
         → Wrote taken faults (IsReplayText angle rounds exponent script) (ended_with r) old now

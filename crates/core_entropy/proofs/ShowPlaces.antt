@@ -109,9 +109,3 @@ module _ (o : ForwardOrbit) (start : List ℕ) where
           subst (GrewByPrefix a c) whole.1
           (prefix-more a c (columns (j + 1)) whole.0
           (page-part a b c (page ++ flat_map (pair_line o) (pairs_below j)) (columns (j + 1)) on_page part))
-
-  pub columns_done : (a b : Option (List ℕ)) (page : List ℕ) (j : ℕ) → length o.places ≢ 1 → j ≡ length o.places
-      → GrewAllBut a b page (columns j) → GrewAllBut a b page (start ++ rows_text o)
-  columns_done a b page j other is =
-      subst (GrewAllBut a b page) (ap (λ n. start ++ flat_map (pair_line o) (place_pairs n)) is
-      ∙ ap (λ l. start ++ flat_map (pair_line o) l) (sym (all_places o other)))

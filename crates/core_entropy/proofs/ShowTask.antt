@@ -1,8 +1,10 @@
 -- The task of the command `show`.
 use Rattle.std.proofs.Common.{◌≡◌, ◌≤◌, ◌++◌, [], ◌∙◌, inr, ℕ, List, Option, length, refl}
-use Rattle.std.proofs.Common.{sym, ap, subst}
+use Rattle.std.proofs.Common.{sym, ap, subst, append_assoc}
+use Rattle.std.specs.Prelude.{codes}
 use Rattle.std.proofs.lemmas.List.Elements.{All-nil}
 use Rattle.ce_angle.specs.Fraction.{Fraction, IsAngle}
+use Rattle.ce_angle.specs.Spelled.{ended}
 use Rattle.ce_orbit.specs.Orbit.{ForwardOrbit, IsForwardOrbit}
 use Rattle.ce_port.specs.Pieces.{GrewAllBut}
 use Rattle.ce_port.specs.Sink.{GrewBy}
@@ -33,6 +35,28 @@ pub row_spelled : (o : ForwardOrbit) (k : ℕ) (pair : ℕ × ℕ) (list : List 
 row_spelled o k pair list row index same read =
     ap (λ r. row_line k pair r) (read ∙ ap (λ rows. row_at rows k) same)
     ∙ ap (λ n. row_line n pair (row_at (rows_of_orbit o) n)) (sym index)
+
+-- one more piece after those that were appended
+more_appended : (t u v x y : List ℕ) → u ≡ t ++ x → v ≡ u ++ y → v ≡ t ++ (x ++ y)
+more_appended t u v x y first second = second ∙ ap (λ l. l ++ y) first ∙ append_assoc t x y
+
+-- a word and a number after them
+number_appended : (t u v x word number : List ℕ) → u ≡ t ++ x → v ≡ (u ++ word) ++ number
+    → v ≡ t ++ ((x ++ word) ++ number)
+number_appended t u v x word number first second =
+    more_appended t (u ++ word) v (x ++ word) number (more_appended t u (u ++ word) x word first refl) second
+
+-- The pieces of a row's line, one after another.
+pub row_joined : (t t1 t2 t3 t4 t5 t6 k i j targets : List ℕ)
+    → t1 ≡ (t ++ codes "row ") ++ k → t2 ≡ (t1 ++ codes " pair ") ++ i → t3 ≡ (t2 ++ codes " ") ++ j
+    → t4 ≡ t3 ++ codes " to" → t5 ≡ t4 ++ targets → t6 ≡ t5 ++ codes "\n"
+    → t6 ≡ t ++ ended (codes "row " ++ k ++ codes " pair " ++ i ++ codes " " ++ j ++ codes " to" ++ targets)
+row_joined t t1 t2 t3 t4 t5 t6 k i j targets h1 h2 h3 h4 h5 h6 =
+    let first = h1 ∙ append_assoc t (codes "row ") k in
+    let second = number_appended t t1 t2 _ (codes " pair ") i first h2 in
+    let third = number_appended t t2 t3 _ (codes " ") j second h3 in
+    let fourth = more_appended t t3 t4 _ (codes " to") third h4 in
+    more_appended t t5 t6 _ (codes "\n") (more_appended t t4 t5 _ targets fourth h5) h6
 
 -- What was written of an orbit's text.
 module _ (angle : Fraction) (o : ForwardOrbit) (is_orbit : IsForwardOrbit o) (of_angle : o.angle ≡ angle) where

@@ -49,9 +49,6 @@ module _ (task : Task) (lawful : IsLawful task) where
   pub calls_one : (input : List ℕ) (s t : Status) → CallsFor task input s → CallsFor task input t → s ≡ t
   calls_one input = unless_one (IsAbove task.limit input) InputTooLong (task.Ends input) (lawful.one input)
 
-  pub calls_called : (input : List ℕ) (s : Status) → CallsFor task input s → IsCalledFor s
-  calls_called input = unless_called (IsAbove task.limit input) InputTooLong (task.Ends input) tt (lawful.called input)
-
 pub refusal_lawful : (status : Status) → IsCalledFor status → IsLawful (refusal status)
 refusal_lawful status called = record {
   some = λ input. (status, refl);

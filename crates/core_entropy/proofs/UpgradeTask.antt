@@ -12,14 +12,15 @@ use Rattle.ce_angle.proofs.OneList.{one_list}
 use Rattle.ce_check.specs.GoodMap.{IsGoodMap}
 use Rattle.ce_check.specs.Verdicts.{HasGoodMap}
 use Rattle.ce_check.specs.declared.verdict.Verdict.TheVariants.{Accepted}
+use Rattle.ce_check.proofs.CheckLaws.{same_version}
 use Rattle.ce_check.proofs.OneFront.{unfit_no_item}
 use Rattle.ce_check.proofs.SomeVerdict.{few_order}
 use Rattle.ce_map.specs.Grammar.{Header, IsItem, IsMapOf, Item, end_line, header_line, item_text}
 use Rattle.ce_map.specs.Views.{Shows}
-use Rattle.ce_map.specs.Walk.{IsEndStep, IsHeaderStep, IsItemStep, IsUnfitLine, Walk, left_of, start_of}
+use Rattle.ce_map.specs.Walk.{IsHeaderStep, IsItemStep, IsUnfitLine, Walk, left_of, start_of}
 use Rattle.ce_map.specs.declared.record_view.RecordView.{RecordView}
 use Rattle.ce_map.specs.declared.view.Stage.TheVariants.{Parts, Start}
-use Rattle.ce_map.proofs.Unique.{no_end, one_header, one_item}
+use Rattle.ce_map.proofs.Unique.{one_header, one_item}
 use Rattle.ce_port.specs.Pieces.{GrewAllBut}
 use Rattle.ce_port.specs.Sink.{GrewBy}
 use Rattle.ce_port.specs.WriteAll.{GrewByPrefix}
@@ -30,9 +31,6 @@ use Rattle.core_entropy.specs.UpgradeInside.{AreLeft, IsAtStart, IsNextItem}
 use Rattle.core_entropy.proofs.Paged.{paged_part, paged_rest, paged_stays, paged_whole}
 
 -- the walk
-same_version : (v u : ℕ) → Parts v ≡ Parts u → v ≡ u
-same_version v u h = cc
-
 module _ (version : ℕ) (item : Item) (items : List Item) (w : Walk) (are : AreLeft version (item ∷ items) w) where
   item_left : left_of w ≡ item_text version item ++ (flat_map (item_text version) items ++ end_line are.told)
   item_left = are.left ∙ append_assoc (item_text version item) (flat_map (item_text version) items) (end_line are.told)
@@ -60,11 +58,6 @@ module _ (version : ℕ) (item : Item) (items : List Item) (w : Walk) (are : Are
           left = one.rest;
         };
       }
-
-pub no_end_next : (w v : Walk) (line count : ℕ) → IsNextItem w → IsEndStep w line count v → ⊥
-no_end_next w v line count next s =
-    no_end next.version count next.item _ (left_of v)
-    (sym (item_left next.version next.item next.items w next.are_left) ∙ s.spelled)
 
 pub no_form_next : (w : Walk) (line : ℕ) → IsNextItem w → IsUnfitLine w w.stage line → ⊥
 no_form_next w line next unfit =

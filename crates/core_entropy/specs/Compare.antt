@@ -1,13 +1,13 @@
 -- The command `compare`: how two angles stand to each other. Source: this project's choice.
 use Rattle.std.specs.Prelude.{◌≡◌, ◌<◌, ◌⊎◌, ℕ, List, [], ◌++◌, None, codes, ⊤}
 use Rattle.ce_angle.specs.Fraction.{Fraction}
+use Rattle.ce_atlas.specs.Relation.{AreAlike}
 use Rattle.ce_atlas.specs.declared.relation.Relation.{Relation}
 use Rattle.ce_atlas.specs.declared.relation.Relation.TheVariants.{Equal, Below, Above, Open}
 use Rattle.ce_orbit.specs.Orbit.{HasOrbitAbove}
 use Rattle.ce_rows.specs.declared.interval.Interval.{Interval}
 use Rattle.ce_solve.specs.declared.angle.SolveError.{SolveError}
 use Rattle.ce_solve.specs.declared.angle.SolveError.TheVariants as error
-use Rattle.ce_sweep.specs.Classes.{HaveSameKneading}
 use Rattle.core_entropy.specs.Probe.{IsInitialOf}
 use Rattle.core_entropy.specs.Task.{Task, Unless}
 use Rattle.ce_angle.specs.Spelled.{ended, fraction_text}
@@ -24,16 +24,6 @@ relation_word Open = codes "open"
 abbrev pub compare_line : Fraction → Fraction → Relation → List ℕ
 compare_line a b relation =
     ended (codes "compare " ++ fraction_text a ++ codes " " ++ fraction_text b ++ codes " " ++ relation_word relation)
-
--- Two intervals are one number.
-pub record AreOneNumber (i j : Interval) : Type 0 where
-  pub first : i.low ≡ i.high
-  pub second : j.low ≡ j.high
-  pub same : i.high ≡ j.low
-
--- The angles have one kneading sequence, or their intervals are one number.
-abbrev pub AreAlike : Fraction → Fraction → Interval → Interval → Type 0
-AreAlike a b i j = HaveSameKneading a b ⊎ AreOneNumber i j
 
 -- how angles with these intervals stand to each other
 abbrev pub IsRelation : Fraction → Fraction → Interval → Interval → Relation → Type 0

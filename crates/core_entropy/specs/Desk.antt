@@ -6,7 +6,7 @@ use Rattle.ce_command.specs.declared.command.Command.{Command}
 use Rattle.ce_command.specs.declared.command.Command.TheVariants as command
 use Rattle.ce_desk.specs.Desk.{Slot}
 use Rattle.ce_desk.specs.DeskText.{IsDeskText, IsOpeningText}
-use Rattle.ce_desk.specs.ServedInside.{HasServed}
+use Rattle.ce_desk.specs.Served.{HasServed}
 use Rattle.ce_desk.specs.declared.closing.Closing.{Closing}
 use Rattle.ce_desk.specs.declared.serving.DeskStop.{DeskStop}
 use Rattle.ce_desk.specs.declared.serving.DeskStop.TheVariants as stop

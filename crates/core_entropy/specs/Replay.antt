@@ -3,6 +3,7 @@
 use Rattle.std.specs.Prelude.{◌≡◌, ◌⊎◌, ℕ, List, [], ◌∷◌, ◌++◌, Some, codes, length}
 use Rattle.std.specs.Fmt.{decimal}
 use Rattle.ce_angle.specs.Fraction.{Fraction}
+use Rattle.ce_core.specs.Machine.{actor_count}
 use Rattle.ce_core.specs.Runs.{shared_after}
 use Rattle.ce_core.specs.Script.{IsScriptOf, IsFirstBad}
 use Rattle.ce_orbit.specs.Orbit.{ForwardOrbit, IsForwardOrbit, HasOrbitWithin, HasOrbitAbove}
@@ -38,7 +39,7 @@ pub record HasBadLine (angle : Fraction) (script : List ℕ) (line : ℕ) : Type
 -- initial enclosure
 abbrev pub replayed : ScaledRows → List ℕ → ℕ → Interval → List Event → Shared
 replayed rows ranks rounds initial events =
-    shared_after rows ranks 16 (start_of rows.list ranks rounds) initial.low initial.high events
+    shared_after rows ranks actor_count (start_of rows.list ranks rounds) initial.low initial.high events
 
 abbrev pub entries_line : List ℕ → List ℕ
 entries_line entries = ended (codes "entries" ++ spaced decimal entries)
@@ -68,7 +69,7 @@ pub record IsReplayText (angle : Fraction) (rounds exponent : ℕ) (script text 
 abbrev pub script_limit : ℕ
 script_limit = 1048576
 
--- A script is_initial with its first bad line, or is done.
+-- A script ends with its first bad line, or it is done.
 abbrev pub EndsByScript : Fraction → List ℕ → Status → Type 0
 EndsByScript angle script s =
     ((line : ℕ) × HasBadLine angle script line × (s ≡ BadEvent line)) ⊎ (HasScript angle script × (s ≡ Done))

@@ -1,5 +1,5 @@
 // The command `desk`, which owns its streams while it runs.
-ghost use Rattle.std.specs.Prelude.{◌≡◌, ◌≢◌, ◌⊎◌, ◌≤◌, ℕ, List, [], IfOk, Ok, Err, map, string_bytes};
+ghost use Rattle.std.specs.Prelude.{◌≡◌, ◌≢◌, ◌⊎◌, ◌≤◌, ℕ, [], IfOk, Ok, Err, map, string_bytes};
 ghost use Rattle.std.specs.Result.{IfErr};
 ghost use Rattle.ce_command.specs.Table.{IsWithinLimits};
 ghost use Rattle.ce_command.specs.declared.command.Command.{Command};
@@ -11,6 +11,7 @@ ghost use Rattle.core_entropy.specs.Desk.{IsDesk, status_of};
 ghost use Rattle.core_entropy.specs.Output.{WroteLine};
 ghost use Rattle.core_entropy.specs.Status.{IsUnlessNoMemory, error_line};
 ghost use Rattle.core_entropy.specs.declared.status.Status.{Status};
+ghost use Rattle.ce_rows.specs.Limits.{most_rounds, most_workers};
 
 use crate::run::tell;
 use crate::status::Status;
@@ -35,7 +36,7 @@ pub struct DeskRun<S, O> {
 fn settings_of(command: Command) -> Result<DeskSettings, Status>
     requires { IsWithinLimits command }
     ensures some { IfOk result (λ s. command ≡ Command.Desk s.rounds s.workers s.scale) }
-    ensures limits { IfOk result (λ s. (s.rounds ≤ 36) × (1 ≤ s.workers) × (s.workers ≤ 16)) }
+    ensures limits { IfOk result (λ s. (s.rounds ≤ most_rounds) × (1 ≤ s.workers) × (s.workers ≤ most_workers)) }
     ensures none { IfErr result (λ status. (status ≡ Status.Usage) × ¬ (IsDesk command)) }
 {
     let Command::Desk {
@@ -60,7 +61,7 @@ fn settings_of(command: Command) -> Result<DeskSettings, Status>
 fn settings_read(read: Result<Command, WordsError>) -> Result<DeskSettings, Status>
     requires { IfOk read IsWithinLimits }
     ensures some { IfOk result (λ s. read ≡ Ok (Command.Desk s.rounds s.workers s.scale)) }
-    ensures limits { IfOk result (λ s. (s.rounds ≤ 36) × (1 ≤ s.workers) × (s.workers ≤ 16)) }
+    ensures limits { IfOk result (λ s. (s.rounds ≤ most_rounds) × (1 ≤ s.workers) × (s.workers ≤ most_workers)) }
     ensures none { IfErr result (λ status. (status ≡ Status.NoMemory)
         ⊎ ((status ≡ Status.Usage) × (read ≢ Err WordsError.NoMemory)
         × ((r w e : ℕ) → read ≢ Ok (Command.Desk r w e)))) }
@@ -76,7 +77,7 @@ fn settings_read(read: Result<Command, WordsError>) -> Result<DeskSettings, Stat
 fn settings_asked(alloc: Global, words: &[String]) -> Result<DeskSettings, Status>
     ensures asked { IfOk result (λ s.
         AskForDesk (map string_bytes words.now) s.rounds s.workers s.scale) }
-    ensures limits { IfOk result (λ s. (s.rounds ≤ 36) × (1 ≤ s.workers) × (s.workers ≤ 16)) }
+    ensures limits { IfOk result (λ s. (s.rounds ≤ most_rounds) × (1 ≤ s.workers) × (s.workers ≤ most_workers)) }
     ensures refused { IfErr result (λ status. (status ≡ Status.NoMemory)
         ⊎ ((status ≡ Status.Usage) × ¬ (AskForAnyDesk (map string_bytes words.now)))) }
 {

@@ -6,6 +6,7 @@ ghost use Rattle.ce_rows.specs.Blocks.{IsRanking};
 ghost use Rattle.ce_rows.specs.Growth.{Encloses};
 ghost use Rattle.ce_rows.specs.Scale.{IsExponent};
 ghost use Rattle.ce_rows.specs.Rows.{ScaledRows, AreScaledRows};
+ghost use Rattle.ce_rows.specs.Limits.{greatest_order, most_rounds};
 ghost use Rattle.ce_vector.specs.PowerIteration.{power_vector};
 ghost use Rattle.ce_cert.specs.Quotients.{low_of, high_of};
 ghost use Rattle.ce_angle.specs.Fraction.{Fraction};
@@ -89,7 +90,7 @@ pub fn texts_are_unique()
     ensures atlas { (order rounds exponent : ℕ) (text other : List ℕ)
         → IsAtlasText order rounds exponent text → IsAtlasText order rounds exponent other
         → text ≡ other }
-    ensures compare { (a b : Fraction) (rounds exponent : ℕ) (text other : List ℕ) → rounds ≤ 36
+    ensures compare { (a b : Fraction) (rounds exponent : ℕ) (text other : List ℕ) → rounds ≤ most_rounds
         → IsCompareText a b rounds exponent text → IsCompareText a b rounds exponent other
         → text ≡ other }
 {
@@ -99,7 +100,7 @@ pub fn texts_are_unique()
 /// A text of `map` is a good map, and so is the answer of `upgrade` to a good map.
 pub fn written_maps_are_good()
     ensures map { (order rounds turns workers exponent : ℕ) (text : List ℕ)
-        → 1 ≤ order → order ≤ 128
+        → 1 ≤ order → order ≤ greatest_order
         → IsExponent exponent → (h : IsMapText order rounds turns workers exponent text)
         → IsGoodMap text (header_of order exponent) h.items }
     ensures upgrade { (bytes : List ℕ) (h : Header) (items : List Item) → IsGoodMap bytes h items

@@ -1,6 +1,7 @@
 // The command `angle`: the line of one angle.
 ghost use Rattle.std.specs.Prelude.{◌≡◌, ◌≤◌, IfOk, [], string_bytes};
 ghost use Rattle.ce_rows.specs.Scale.{IsExponent};
+ghost use Rattle.ce_rows.specs.Limits.{most_rounds, most_turns, most_workers};
 ghost use Rattle.ce_solve.specs.Limits.{AreWithinLimits};
 ghost use Rattle.core_entropy.specs.Angle.{IsAngleText, angle_task, line_of};
 ghost use Rattle.core_entropy.specs.Output.{HasEnded};
@@ -71,10 +72,10 @@ pub fn write_angle<R: Threads + Sync, G: Gate + Sync, O: Sink>(
     gate: &G,
     out: &mut O,
 ) -> Result<(), Status>
-    requires rounds { rounds ≤ 36 }
-    requires turns { turns ≤ 100000 }
+    requires rounds { rounds ≤ most_rounds }
+    requires turns { turns ≤ most_turns }
     requires some { 1 ≤ workers }
-    requires workers { workers ≤ 16 }
+    requires workers { workers ≤ most_workers }
     requires scale { IsExponent scale }
     ensures { HasEnded O.taken O.faults (angle_task rounds turns workers scale angle)
         [] (ended_with result)

@@ -1,6 +1,7 @@
 // The command `atlas`: the table of the classes of all angles up to an order.
 ghost use Rattle.std.specs.Prelude.{◌≤◌, [], IfOk};
 ghost use Rattle.ce_rows.specs.Scale.{IsExponent};
+ghost use Rattle.ce_rows.specs.Limits.{greatest_order, most_rounds};
 ghost use Rattle.core_entropy.specs.Atlas.{IsAtlasText, atlas_task};
 ghost use Rattle.core_entropy.specs.Output.{HasEnded};
 ghost use Rattle.core_entropy.specs.Status.{ended_with};
@@ -25,8 +26,8 @@ fn table_of<R: Threads + Sync, G: Gate + Sync>(
     gate: &G,
 ) -> Result<Vec<u8>, NoMemory>
     requires some { 1 ≤ order }
-    requires few { order ≤ 128 }
-    requires rounds { rounds ≤ 36 }
+    requires few { order ≤ greatest_order }
+    requires rounds { rounds ≤ most_rounds }
     ensures { IfOk result (λ text. IsAtlasText order rounds scale text.items) }
 {
     let settings = Settings {
@@ -53,8 +54,8 @@ pub fn write_atlas<R: Threads + Sync, G: Gate + Sync, O: Sink>(
     out: &mut O,
 ) -> Result<(), Status>
     requires some { 1 ≤ order }
-    requires few { order ≤ 128 }
-    requires rounds { rounds ≤ 36 }
+    requires few { order ≤ greatest_order }
+    requires rounds { rounds ≤ most_rounds }
     requires scale { IsExponent scale }
     ensures { HasEnded O.taken O.faults (atlas_task order rounds scale) []
         (ended_with result) out.old out.new }

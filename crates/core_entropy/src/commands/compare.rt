@@ -1,6 +1,7 @@
 // The command `compare`: how two angles stand to each other.
 ghost use Rattle.std.specs.Prelude.{◌≡◌, ◌≤◌, ◌++◌, IfOk, IfErr, OnOk, [], codes, string_bytes};
 ghost use Rattle.ce_rows.specs.Scale.{IsExponent};
+ghost use Rattle.ce_rows.specs.Limits.{most_rounds};
 ghost use Rattle.core_entropy.specs.Compare.{AreCompared, HasLongOrbit, IsCauseOf, compare_line};
 ghost use Rattle.core_entropy.specs.Compare.{compare_task, relation_word};
 ghost use Rattle.core_entropy.specs.Output.{HasEnded, Wrote};
@@ -61,7 +62,7 @@ fn compared<R: Threads + Sync, G: Gate + Sync>(
     scale: Scale,
     gate: &G,
 ) -> Result<Relation, SolveError>
-    requires rounds { rounds ≤ 36 }
+    requires rounds { rounds ≤ most_rounds }
     ensures relation { IfOk result (AreCompared a b rounds scale) }
     ensures short { OnOk result (¬ (HasLongOrbit a b)) }
     ensures cause { IfErr result (IsCauseOf a b) }
@@ -111,7 +112,7 @@ pub fn write_compare<R: Threads + Sync, G: Gate + Sync, O: Sink>(
     gate: &G,
     out: &mut O,
 ) -> Result<(), Status>
-    requires rounds { rounds ≤ 36 }
+    requires rounds { rounds ≤ most_rounds }
     requires scale { IsExponent scale }
     ensures { HasEnded O.taken O.faults (compare_task rounds scale a b) []
         (ended_with result) out.old out.new }

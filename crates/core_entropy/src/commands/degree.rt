@@ -2,6 +2,7 @@
 ghost use Rattle.std.specs.Prelude.{◌≡◌, ◌≤◌, ◌++◌, IfOk, OnOk, [], codes, string_bytes};
 ghost use Rattle.std.specs.Fmt.{decimal};
 ghost use Rattle.ce_rows.specs.Scale.{IsExponent};
+ghost use Rattle.ce_rows.specs.Limits.{most_rounds, most_turns, most_workers};
 ghost use Rattle.ce_solve.specs.Limits.{AreWithinLimits};
 ghost use Rattle.core_entropy.specs.Degree.{IsDegreeText, degree_line, degree_task};
 ghost use Rattle.core_entropy.specs.Output.{HasEnded};
@@ -89,10 +90,10 @@ pub fn write_degree<R: Threads + Sync, G: Gate + Sync, O: Sink>(
 ) -> Result<(), Status>
     requires least { 2 ≤ degree }
     requires most { degree ≤ 16 }
-    requires rounds { rounds ≤ 36 }
-    requires turns { turns ≤ 100000 }
+    requires rounds { rounds ≤ most_rounds }
+    requires turns { turns ≤ most_turns }
     requires some { 1 ≤ workers }
-    requires workers { workers ≤ 16 }
+    requires workers { workers ≤ most_workers }
     requires scale { IsExponent scale }
     ensures { HasEnded O.taken O.faults (degree_task degree rounds turns workers scale angle)
         [] (ended_with result)

@@ -7,6 +7,7 @@ ghost use Rattle.ce_map.specs.Grammar.{Item, end_line, item_text};
 ghost use Rattle.ce_port.specs.Pieces.{GrewAllBut};
 ghost use Rattle.ce_port.specs.WriteAll.{GrewByPrefix};
 ghost use Rattle.ce_rows.specs.Scale.{IsExponent};
+ghost use Rattle.ce_rows.specs.Limits.{greatest_order, most_rounds, most_turns, most_workers};
 ghost use Rattle.ce_sweep.specs.Answers.{AreSolvedBy};
 ghost use Rattle.core_entropy.specs.Map.{IsMapText, map_task};
 ghost use Rattle.core_entropy.specs.MapInside.{AreItemsOf};
@@ -92,7 +93,7 @@ fn write_items_of<O: Sink>(
     out: &mut O,
 ) -> Result<(), Status>
     requires some { 1 ≤ order }
-    requires few { order ≤ 128 }
+    requires few { order ≤ greatest_order }
     requires small { All (IsAngleUpTo 128) angles.now }
     requires angles { AreAnglesUpTo order angles.now }
     requires solved { AreSolvedBy settings.now angles.now solutions.now.classes.of.items
@@ -121,11 +122,11 @@ pub fn write_map<R: Threads + Sync, G: Gate + Sync, O: Sink>(
     out: &mut O,
 ) -> Result<(), Status>
     requires some { 1 ≤ order }
-    requires few { order ≤ 128 }
-    requires rounds { rounds ≤ 36 }
-    requires turns { turns ≤ 100000 }
+    requires few { order ≤ greatest_order }
+    requires rounds { rounds ≤ most_rounds }
+    requires turns { turns ≤ most_turns }
     requires one { 1 ≤ workers }
-    requires workers { workers ≤ 16 }
+    requires workers { workers ≤ most_workers }
     requires scale { IsExponent scale }
     ensures { HasEnded O.taken O.faults (map_task order rounds turns workers scale)
         [] (ended_with result)

@@ -1,6 +1,7 @@
 // The command `part`: the certificates at some places of the list of all angles up to an order.
 ghost use Rattle.std.specs.Prelude.{◌≤◌, [], IfErr, IfOk};
 ghost use Rattle.ce_rows.specs.Scale.{IsExponent};
+ghost use Rattle.ce_rows.specs.Limits.{greatest_order, most_rounds, most_turns, most_workers};
 ghost use Rattle.ce_sweep.specs.Answers.{AreSolvedBy};
 ghost use Rattle.core_entropy.specs.Output.{HasEnded, Wrote};
 ghost use Rattle.core_entropy.specs.Part.{AreAtPlaces, IsPartText, IsRefusedPart, part_task};
@@ -24,7 +25,7 @@ use std::thread::Threads;
 /// the list doesn't have these places, the words are no command.
 pub fn angles_at(alloc: Global, order: u32, from: u32, to: u32) -> Result<Vec<Angle>, Status>
     requires some { 1 ≤ order }
-    requires few { order ≤ 128 }
+    requires few { order ≤ greatest_order }
     ensures at { IfOk result (λ angles. AreAtPlaces order from to angles.items) }
     ensures refused { IfErr result (IsRefusedPart order from to) }
 {
@@ -49,7 +50,7 @@ fn write_part_of<O: Sink>(
     out: &mut O,
 ) -> Result<(), Status>
     requires some { 1 ≤ order }
-    requires few { order ≤ 128 }
+    requires few { order ≤ greatest_order }
     requires at { AreAtPlaces order from to angles.now }
     requires scale { IsExponent settings.now.scale }
     requires solved { AreSolvedBy settings.now angles.now solutions.now.classes.of.items
@@ -82,12 +83,12 @@ pub fn write_part<R: Threads + Sync, G: Gate + Sync, O: Sink>(
     out: &mut O,
 ) -> Result<(), Status>
     requires some { 1 ≤ order }
-    requires few { order ≤ 128 }
+    requires few { order ≤ greatest_order }
     requires at { AreAtPlaces order from to angles.now }
-    requires rounds { rounds ≤ 36 }
-    requires turns { turns ≤ 100000 }
+    requires rounds { rounds ≤ most_rounds }
+    requires turns { turns ≤ most_turns }
     requires one { 1 ≤ workers }
-    requires workers { workers ≤ 16 }
+    requires workers { workers ≤ most_workers }
     requires scale { IsExponent scale }
     ensures { HasEnded O.taken O.faults (part_task order from to rounds turns workers scale)
         [] (ended_with result)

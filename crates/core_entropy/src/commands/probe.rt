@@ -2,6 +2,7 @@
 ghost use Rattle.std.specs.Prelude.{◌≡◌, ◌<◌, ◌≤◌, ◌+◌, ◌++◌, ◌^◌, [], All, IfOk, OnOk, length};
 ghost use Rattle.std.specs.Prelude.{string_bytes};
 ghost use Rattle.ce_rows.specs.Scale.{IsExponent};
+ghost use Rattle.ce_rows.specs.Limits.{most_rounds};
 ghost use Rattle.core_entropy.specs.Output.{HasEnded};
 ghost use Rattle.core_entropy.specs.Probe.{IsProbeText, bits_line, high_line, low_line};
 ghost use Rattle.core_entropy.specs.Probe.{probe_heading, probe_task};
@@ -191,7 +192,7 @@ fn probe_lines<R: Threads + Sync, G: Gate + Sync>(
 ) -> Result<String, NoMemory>
     requires start { start ≤ 1000000000 }
     requires count { count ≤ 10000 }
-    requires rounds { rounds ≤ 36 }
+    requires rounds { rounds ≤ most_rounds }
     ensures { IfOk result (λ text. IsProbeText start count rounds scale (string_bytes text)) }
 {
     let exponent = scale.exponent();
@@ -221,7 +222,7 @@ pub fn write_probe<R: Threads + Sync, G: Gate + Sync, O: Sink>(
 ) -> Result<(), Status>
     requires start { start ≤ 1000000000 }
     requires count { count ≤ 10000 }
-    requires rounds { rounds ≤ 36 }
+    requires rounds { rounds ≤ most_rounds }
     requires scale { IsExponent scale }
     ensures { HasEnded O.taken O.faults (probe_task start count rounds scale) [] (ended_with result)
         out.old out.new }

@@ -10,6 +10,7 @@ ghost use Rattle.ce_port.specs.WriteAll.{GrewByPrefix};
 ghost use Rattle.ce_rows.specs.Blocks.{IsRanking};
 ghost use Rattle.ce_rows.specs.Rows.{EnclosesRows};
 ghost use Rattle.ce_rows.specs.Scale.{IsExponent};
+ghost use Rattle.ce_rows.specs.Limits.{most_rounds};
 ghost use Rattle.ce_vector.specs.Start.{scaled_up};
 ghost use Rattle.ce_thurston.specs.Indices.{rows_at};
 ghost use Rattle.core_entropy.specs.Output.{HasEnded, Wrote};
@@ -130,7 +131,7 @@ fn write_after<O: Sink>(
     out: &mut O,
 ) -> Result<(), Status>
     requires rows { rows.now ≡ rows_at orbit.now scale }
-    requires rounds { rounds ≤ 36 }
+    requires rounds { rounds ≤ most_rounds }
     requires events { All (IsEventBelow (length rows.now.list)) events.now }
     ensures wrote { Wrote O.taken O.faults (λ text. (script : List ℕ)
         → IsScriptOf (length rows.now.list) script events.now
@@ -161,7 +162,7 @@ fn replay_orbit<O: Sink>(
     script: &[u8],
     out: &mut O,
 ) -> Result<(), Status>
-    requires rounds { rounds ≤ 36 }
+    requires rounds { rounds ≤ most_rounds }
     requires fits { length script.now ≤ script_limit }
     ensures { HasEnded O.taken O.faults (replay_task rounds scale orbit.now.angle) script.now
         (ended_with result) out.old out.new }
@@ -184,7 +185,7 @@ pub fn write_replay<O: Sink>(
     script: &[u8],
     out: &mut O,
 ) -> Result<(), Status>
-    requires rounds { rounds ≤ 36 }
+    requires rounds { rounds ≤ most_rounds }
     requires scale { IsExponent scale }
     requires fits { length script.now ≤ script_limit }
     ensures { HasEnded O.taken O.faults (replay_task rounds scale angle) script.now

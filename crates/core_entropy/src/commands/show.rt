@@ -13,7 +13,8 @@ ghost use Rattle.core_entropy.specs.Output.{HasEnded};
 ghost use Rattle.core_entropy.specs.Show.{show_task, angle_heading, cycle_line, orbit_line};
 ghost use Rattle.core_entropy.specs.Show.{place_text, symbols_line, rows_text, pair_line};
 ghost use Rattle.ce_thurston.specs.Indices.{pairs_below};
-ghost use Rattle.core_entropy.specs.Show.{row_line};
+ghost use Rattle.core_entropy.specs.Show.{row_line, spaced};
+ghost use Rattle.ce_rows.specs.Rows.{targets_of};
 ghost use Rattle.core_entropy.specs.Show.{head_text};
 ghost use Rattle.core_entropy.specs.Status.{ended_with, IsStopped};
 ghost use Rattle.ce_angle.specs.Spelled.{ended};
@@ -24,6 +25,7 @@ use ce_orbit::{Orbit, Symbol};
 use ce_port::{Sink, turn_page, write_piece};
 use ce_rows::{NoMemory, Row, Rows};
 use ce_thurston::{pair_index, rows_of};
+use itoa::Buffer;
 use std::alloc::Global;
 
 // Appends the line of the angle.
@@ -126,15 +128,42 @@ fn head_of(alloc: Global, orbit: &Orbit, rows: &Rows) -> Result<String, NoMemory
     Ok(text)
 }
 
+// Appends a word and a number after it. Rows are the most of the text, so no formatter stands
+// between.
+fn append_number(text: &mut String, word: &str, number: u32) -> Result<(), NoMemory>
+    ensures { OnOk result
+        (string_bytes text.new ≡ string_bytes text.old ++ word.now ++ decimal number) }
+{
+    let mut digits = Buffer::new();
+    text.push_str(word)?;
+    text.push_str(digits.format(number))?;
+    Ok(())
+}
+
+// Appends the successors of a row, each after a space.
+fn append_successors(text: &mut String, row: Row) -> Result<(), NoMemory>
+    ensures { OnOk result
+        (string_bytes text.new ≡ string_bytes text.old ++ spaced decimal (targets_of row)) }
+{
+    match row {
+        Row::One(x) => append_number(text, " ", x),
+        Row::Two(x, y) => {
+            append_number(text, " ", x)?;
+            append_number(text, " ", y)
+        }
+    }
+}
+
 // Appends the line of a row.
 fn append_row(text: &mut String, k: u32, places: (u32, u32), row: Row) -> Result<(), NoMemory>
     ensures { OnOk result (string_bytes text.new ≡ string_bytes text.old ++ row_line k places row) }
 {
-    let (i, j) = places;
-    match row {
-        Row::One(x) => write!(text, "row {k} pair {i} {j} to {x}\n")?,
-        Row::Two(x, y) => write!(text, "row {k} pair {i} {j} to {x} {y}\n")?,
-    }
+    append_number(text, "row ", k)?;
+    append_number(text, " pair ", places.0)?;
+    append_number(text, " ", places.1)?;
+    text.push_str(" to")?;
+    append_successors(text, row)?;
+    text.push_str("\n")?;
     Ok(())
 }
 

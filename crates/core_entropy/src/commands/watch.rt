@@ -4,6 +4,7 @@ ghost use Rattle.std.specs.List.{flat_map};
 ghost use Rattle.ce_port.specs.Pieces.{GrewAllBut};
 ghost use Rattle.ce_port.specs.WriteAll.{GrewByPrefix};
 ghost use Rattle.ce_rows.specs.Scale.{IsExponent};
+ghost use Rattle.ce_rows.specs.Limits.{most_reads, most_rounds, most_sessions, most_turns, most_workers};
 ghost use Rattle.ce_solve.specs.Limits.{AreWithinLimits};
 ghost use Rattle.core_entropy.specs.Output.{HasEnded, Wrote};
 ghost use Rattle.core_entropy.specs.Status.{IsEndOfAnswer, IsStopped, ended_with};
@@ -120,12 +121,12 @@ pub fn write_watch<R: Threads + Sync, G: Gate + Sync, O: Sink>(
     gate: &G,
     out: &mut O,
 ) -> Result<(), Status>
-    requires rounds { rounds ≤ 36 }
-    requires turns { turns ≤ 100000 }
+    requires rounds { rounds ≤ most_rounds }
+    requires turns { turns ≤ most_turns }
     requires some { 1 ≤ workers }
-    requires workers { workers ≤ 16 }
-    requires sessions { sessions ≤ 8 }
-    requires reads { reads ≤ 1000 }
+    requires workers { workers ≤ most_workers }
+    requires sessions { sessions ≤ most_sessions }
+    requires reads { reads ≤ most_reads }
     requires scale { IsExponent scale }
     ensures { HasEnded O.taken O.faults
         (watch_task rounds turns workers sessions reads scale angle) []

@@ -1,6 +1,6 @@
 use Rattle.std.proofs.Common.{◌≡◌, rules, string_bytes, sym, subst}
 use Rattle.ce_angle.specs.Spelled.{fraction_text}
-use Rattle.ce_atlas.specs.Writing.{IsPlain}
+use Rattle.ce_atlas.specs.WritingInside.{IsPlain}
 use Rattle.ce_atlas.proofs.Plain.{angle_plain}
 use Rattle.ce_atlas.proofs.table_text.angle_text.Goals as goal
 

@@ -1,5 +1,5 @@
 use Rattle.std.proofs.Common.{[]}
-use Rattle.ce_command.specs.Reading.{given_by}
+use Rattle.ce_command.specs.ReadingInside.{given_by}
 use Rattle.ce_command.specs.declared.options.NumberOption.{NumberOption}
 use Rattle.ce_command.specs.declared.options.Numbers.TheVariants.{Between}
 use Rattle.ce_command.proofs.Making.{bad_option, good_option}

@@ -1,6 +1,6 @@
 use Rattle.std.proofs.Common.{List, drop, slice_index_or, sym, ap, ◌∙◌, subst}
 use Rattle.std.proofs.lemmas.List.{with_items_is}
-use Rattle.ce_desk.specs.Actors.{HasRunSession}
+use Rattle.ce_desk.specs.ActorsInside.{HasRunSession}
 use Rattle.ce_desk.specs.declared.actor.Actor.{Actor}
 use Rattle.ce_desk.specs.declared.session.Session.{Session}
 use Rattle.ce_desk.proofs.Beside.{session_after, crews_after, session_is, no_crew}

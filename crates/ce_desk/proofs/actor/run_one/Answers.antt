@@ -1,5 +1,5 @@
 use Rattle.std.proofs.Common.{refl, sym, subst}
-use Rattle.ce_desk.specs.Actors.{HasRun}
+use Rattle.ce_desk.specs.ActorsInside.{HasRun}
 use Rattle.ce_desk.specs.declared.actor.Actor.{Actor}
 use Rattle.ce_desk.specs.declared.actor.Actor.TheVariants.{Session, Crew}
 use Rattle.ce_desk.proofs.actor.run_one.Goals as goal

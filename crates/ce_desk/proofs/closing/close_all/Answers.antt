@@ -6,7 +6,7 @@ use Rattle.ce_crew.specs.declared.worker.Worker.{Worker}
 use Rattle.ce_desk.proofs.Closings.{ClosedBelow, none_closed, closed_more, all_closed}
 use Rattle.ce_desk.proofs.Dealing.{any_of, one_owner, no_room, pushed_unless}
 use Rattle.ce_desk.proofs.Reading.{no_slot}
-use Rattle.ce_desk.specs.Cases.{IsDoneFor}
+use Rattle.ce_desk.specs.CasesInside.{IsDoneFor}
 use Rattle.ce_desk.specs.declared.case.SlotSeat.{SlotSeat}
 use Rattle.ce_desk.specs.declared.closing.Closing.{Closing}
 use Rattle.ce_desk.proofs.closing.close_all.Goals as goal

@@ -1,6 +1,6 @@
 use Rattle.std.proofs.Common.{◌≡◌, ◌≤◌, List, length, vec_capacity}
-use Rattle.ce_desk.specs.Cases.{AreFirsts}
-use Rattle.ce_desk.specs.Crews.{AreDone}
+use Rattle.ce_desk.specs.CasesInside.{AreFirsts}
+use Rattle.ce_desk.specs.CrewsInside.{AreDone}
 use Rattle.ce_desk.specs.Desk.{Slot}
 use Rattle.ce_desk.proofs.Closings.{ClosedBelow}
 use Rattle.ce_desk.proofs.closing.close_all.Given as goal

@@ -1,5 +1,5 @@
 use Rattle.std.proofs.Common.{◌≡◌, slice_index_or, subst, arith}
-use Rattle.ce_desk.specs.Cases.{CanRunSlot}
+use Rattle.ce_desk.specs.CasesInside.{CanRunSlot}
 use Rattle.ce_desk.specs.declared.case.Case.{Case}
 use Rattle.ce_desk.proofs.Slots.{can_run_slot}
 use Rattle.ce_desk.proofs.crew.run_slots.Goals as goal

@@ -1,6 +1,6 @@
 use Rattle.std.proofs.Common.{◌≡◌, ◌+◌, List, length, sym, subst, rules, arith}
 use Rattle.ce_desk.proofs.Dealing.{pushed, crews_more, none_more}
-use Rattle.ce_desk.specs.Crews.{AreCrewsOf, HaveNone}
+use Rattle.ce_desk.specs.CrewsInside.{AreCrewsOf, HaveNone}
 use Rattle.ce_desk.specs.declared.actor.Actor.{Actor}
 use Rattle.ce_desk.specs.declared.actor.Actor.TheVariants.{Crew as ACrew}
 use Rattle.ce_desk.proofs.owners.idle_crews.Goals as goal

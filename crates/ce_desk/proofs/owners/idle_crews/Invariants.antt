@@ -1,5 +1,5 @@
 use Rattle.std.proofs.Common.{◌≡◌, ◌<◌, ◌≤◌, ◌+◌, ℕ, length, vec_capacity}
-use Rattle.ce_desk.specs.Crews.{AreCrewsOf, HaveNone}
+use Rattle.ce_desk.specs.CrewsInside.{AreCrewsOf, HaveNone}
 use Rattle.ce_desk.proofs.owners.idle_crews.Given as goal
 
 abbrev pub invariant-loop : goal.invariant-loop

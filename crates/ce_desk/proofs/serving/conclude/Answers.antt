@@ -5,7 +5,7 @@ use Rattle.ce_desk.proofs.Concluded.{done_served, fault_served, cut_is_fault, on
 use Rattle.ce_desk.proofs.Stopped.{closed_all, closed_some}
 use Rattle.ce_desk.specs.DeskText.{closing_text}
 use Rattle.ce_desk.specs.ServedInside.{at_start}
-use Rattle.ce_desk.specs.Talks.{streams, quits_at, IsSpeechEnd}
+use Rattle.ce_desk.specs.TalksInside.{streams, quits_at, IsSpeechEnd}
 use Rattle.ce_desk.specs.declared.closing.Closing.{Closing}
 use Rattle.ce_desk.specs.declared.talk.TalkEnd.{TalkEnd}
 use Rattle.ce_desk.proofs.serving.conclude.Goals as goal

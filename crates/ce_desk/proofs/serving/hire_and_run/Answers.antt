@@ -1,6 +1,6 @@
 use Rattle.std.proofs.Common.{◌<◌, List, length, inr, refl, sym, ap, ◌∙◌, subst, arith}
 use Rattle.ce_desk.proofs.Hiring.{written_back, next_within, firsts_open, hired_open}
-use Rattle.ce_desk.specs.Crews.{AreHired}
+use Rattle.ce_desk.specs.CrewsInside.{AreHired}
 use Rattle.ce_desk.specs.declared.actor.Actor.{Actor}
 use Rattle.ce_desk.proofs.serving.hire_and_run.Goals as goal
 

@@ -3,7 +3,7 @@ use Rattle.std.specs.Prelude.{vec_len}
 use Rattle.std.proofs.lemmas.List.Elements.{All-cons}
 use Rattle.ce_desk.proofs.Dealing.{no_room}
 use Rattle.ce_desk.proofs.Running.{inserted, can_run_crews, went_on, firsts_as, done_as}
-use Rattle.ce_desk.specs.Actors.{CanRun}
+use Rattle.ce_desk.specs.ActorsInside.{CanRun}
 use Rattle.ce_desk.specs.declared.actor.Actor.{Actor}
 use Rattle.ce_desk.specs.declared.actor.Actor.TheVariants.{Session as ASession}
 use Rattle.ce_desk.specs.declared.case.Case.{Case}

@@ -1,6 +1,6 @@
 use Rattle.std.proofs.Common.{ℕ, subst}
 use Rattle.std.specs.Prelude.{Result}
-use Rattle.ce_desk.specs.Talks.{streams, IsNext}
+use Rattle.ce_desk.specs.TalksInside.{streams, IsNext}
 use Rattle.ce_desk.specs.declared.talk.TalkEnd.{TalkEnd}
 use Rattle.ce_desk.proofs.Sessions.{turns_on}
 use Rattle.ce_desk.proofs.session.answer_all.Goals as goal

@@ -1,9 +1,9 @@
 use Rattle.std.proofs.Common.{◌<◌, ◌+◌, ◌*◌, ℕ, List, length}
 use Rattle.std.specs.Prelude.{IfOk}
 use Rattle.ce_lines.specs.Bytes.{room_left}
-use Rattle.ce_desk.specs.Cases.{AreFirsts, KeepsTurns}
+use Rattle.ce_desk.specs.CasesInside.{AreFirsts, KeepsTurns}
 use Rattle.ce_desk.specs.Desk.{Slot, Desk}
-use Rattle.ce_desk.specs.Talks.{Streams, streams, IsTalk, IsNext}
+use Rattle.ce_desk.specs.TalksInside.{Streams, streams, IsTalk, IsNext}
 use Rattle.ce_desk.proofs.Sessions.{is_slot}
 use Rattle.ce_desk.proofs.session.answer_all.Given as goal
 

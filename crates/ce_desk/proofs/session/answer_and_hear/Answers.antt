@@ -1,4 +1,4 @@
-use Rattle.ce_desk.specs.Talks.{streams}
+use Rattle.ce_desk.specs.TalksInside.{streams}
 use Rattle.ce_desk.proofs.Talking.{next_end, err_is}
 use Rattle.ce_desk.proofs.session.answer_and_hear.Goals as goal
 

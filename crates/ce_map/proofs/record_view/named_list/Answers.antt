@@ -1,6 +1,7 @@
 use Rattle.std.proofs.lemmas.Option.{IfSome_then}
 use Rattle.ce_map.specs.BaseInside.{radix_of}
-use Rattle.ce_map.proofs.ItemLaws.{no_word, word_cut, none_then, named_is}
+use Rattle.ce_rows.proofs.General.{none_then}
+use Rattle.ce_map.proofs.ItemLaws.{no_word, word_cut, named_is}
 use Rattle.ce_map.proofs.record_view.named_list.Goals as goal
 
 pub returns-in_err-word-clause-none : goal.returns-in_err-word-clause-none

@@ -4,7 +4,7 @@ use Rattle.ce_cert.specs.Quotients.{low_of, high_of}
 use Rattle.ce_cert.specs.Vectors.{IsVectorOf}
 use Rattle.ce_comp.proofs.Rankings.{numbering_is_ranking}
 use Rattle.ce_vector.specs.PowerIteration.{power_vector}
-use Rattle.ce_solve.specs.Prepared.{AreBoundsIn}
+use Rattle.ce_cert.specs.Certificate.{AreBoundsIn}
 use Rattle.ce_solve.proofs.FloorEnds.{floor_low, floor_high, floor_vector}
 use Rattle.ce_solve.proofs.preparing.prepare.Goals as goal
 

@@ -8,5 +8,6 @@ abbrev pub invariant-loop-i : goal.invariant-loop-i
 invariant-loop-i l = record {
   few : array_vec_len l.vertices ≤ l.i;
   below : All (λ i. i < length l.rows.list) l.vertices.items;
+  each : All (λ i. ¬ (block_successors l.rows.list l.ranks i ≡ [])) l.vertices.items;
   all : (i : ℕ) → i < l.i → (block_successors l.rows.list l.ranks i ≡ []) ⊎ Contains l.vertices.items i;
 }

@@ -4,7 +4,7 @@ use Rattle.std.specs.Result.{IfErr}
 use Rattle.ce_lines.specs.declared.asked.Asked.TheVariants.{Open}
 use Rattle.ce_port.specs.Sink.{GrewBy}
 use Rattle.ce_port.specs.WriteAll.{GrewByPrefix}
-use Rattle.ce_desk.specs.Cases.{AreOpenSlots}
+use Rattle.ce_desk.specs.CasesInside.{AreOpenSlots}
 use Rattle.ce_desk.specs.declared.opening.Slots.{Slots}
 use Rattle.ce_desk.specs.DeskText.{opened_text, refused_text}
 use Rattle.ce_desk.specs.declared.talk.Fault.TheVariants.{NoMemory}

@@ -1,6 +1,6 @@
 use Rattle.std.proofs.Common.{ℕ, Option, Ok, subst, ap, ◌∙◌}
 use Rattle.std.specs.Prelude.{Result}
-use Rattle.ce_desk.specs.Talks.{streams, IsAfterLine}
+use Rattle.ce_desk.specs.TalksInside.{streams, IsAfterLine}
 use Rattle.ce_desk.specs.declared.talk.TalkEnd.{TalkEnd}
 use Rattle.ce_desk.proofs.Talking.{next_end, err_is}
 use Rattle.ce_desk.specs.Desk.{early_desk}

@@ -1,9 +1,9 @@
 use Rattle.std.proofs.Common.{List}
 use Rattle.ce_lines.specs.Bytes.{room_left}
-use Rattle.ce_desk.specs.Cases.{AreOpenSlots}
+use Rattle.ce_desk.specs.CasesInside.{AreOpenSlots}
 use Rattle.ce_desk.specs.Desk.{Slot, early_desk}
-use Rattle.ce_desk.specs.Opening.{HasRoom}
-use Rattle.ce_desk.specs.Talks.{Streams, streams, IsTalk, HasTalked}
+use Rattle.ce_desk.specs.OpeningInside.{HasRoom}
+use Rattle.ce_desk.specs.TalksInside.{Streams, streams, IsTalk, HasTalked}
 use Rattle.ce_desk.proofs.opening.Slots.open_all.Given as goal
 
 abbrev pub invariant-loop-slot : goal.invariant-loop-slot

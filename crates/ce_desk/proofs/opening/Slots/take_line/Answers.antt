@@ -3,7 +3,7 @@ use Rattle.ce_lines.specs.Asks.{IsAsked}
 use Rattle.ce_lines.specs.declared.asked.Asked.{Asked}
 use Rattle.ce_lines.specs.declared.asked.Asked.TheVariants.{Read as AskedRead, Quit as AskedQuit}
 use Rattle.ce_desk.specs.DeskText.{refused_text}
-use Rattle.ce_desk.specs.Talks.{streams, HasHeard}
+use Rattle.ce_desk.specs.TalksInside.{streams, HasHeard}
 use Rattle.ce_desk.proofs.Openings.{not_open, turns_few}
 use Rattle.ce_desk.proofs.Talking.{hears_line, hears_end, said_reply, said_part, refuses, after_end}
 use Rattle.ce_desk.proofs.Talking.{err_is}

@@ -4,7 +4,7 @@ use Rattle.ce_port.specs.WriteAll.{GrewByPrefix}
 use Rattle.ce_port.proofs.Paging.{prefix-after, prefix-more}
 use Rattle.ce_angle.specs.Spelled.{ended}
 use Rattle.ce_desk.specs.DeskText.{closing_lines, closing_text}
-use Rattle.ce_desk.specs.Talks.{quits_at}
+use Rattle.ce_desk.specs.TalksInside.{quits_at}
 use Rattle.ce_desk.specs.declared.talk.TalkEnd.{TalkEnd}
 use Rattle.ce_desk.proofs.Writing.{if_err, if_err_map}
 use Rattle.ce_desk.proofs.talk.Talk.conclude.Goals as goal

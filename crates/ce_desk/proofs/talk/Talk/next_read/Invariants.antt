@@ -1,7 +1,7 @@
 use Rattle.std.proofs.Common.{◌≡◌, ◌≤◌, ℕ, true, length}
 use Rattle.ce_lines.specs.Bytes.{room_left}
 use Rattle.ce_desk.specs.Desk.{Desk}
-use Rattle.ce_desk.specs.Talks.{Streams, streams, IsTalk, HasTalked}
+use Rattle.ce_desk.specs.TalksInside.{Streams, streams, IsTalk, HasTalked}
 use Rattle.ce_desk.proofs.talk.Talk.next_read.Given as goal
 
 abbrev pub invariant-loop-slot : goal.invariant-loop-slot

@@ -2,7 +2,7 @@ use Rattle.std.proofs.Common.{◌≡◌, Option, Some, subst, refl}
 use Rattle.ce_lines.specs.declared.asked.Asked.{Asked}
 use Rattle.ce_lines.specs.declared.asked.Asked.TheVariants.{Read as AskedRead, Quit as AskedQuit}
 use Rattle.ce_desk.specs.DeskText.{refused_text}
-use Rattle.ce_desk.specs.Talks.{streams, HasHeard}
+use Rattle.ce_desk.specs.TalksInside.{streams, HasHeard}
 use Rattle.ce_desk.proofs.Talking.{hears_line, hears_end, said_reply, said_part, refuses, late_if_open, after_end}
 use Rattle.ce_desk.proofs.Talking.{err_is}
 use Rattle.ce_desk.proofs.talk.Talk.take_line.Goals as goal

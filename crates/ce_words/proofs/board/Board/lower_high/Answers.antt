@@ -6,8 +6,8 @@ use Rattle.ce_words.specs.declared.view.Run.{Run}
 use Rattle.ce_words.proofs.Table.{allows}
 use Rattle.ce_words.proofs.board.Board.lower_high.Goals as goal
 
-pub fetch_min-requires : goal.fetch_min-requires
-fetch_min-requires c =
+pub fetch_min-before-requires : goal.fetch_min-before-requires
+fetch_min-before-requires c =
     let seat = c.args.seat.now in
     let r = c.requires.seat in
     let proved = subst (λ (x : Run). IsUpperBoundOf (rows_of x) c.args.high) (sym r.run) c.requires.above in

@@ -6,8 +6,8 @@ use Rattle.ce_words.specs.declared.view.Run.{Run}
 use Rattle.ce_words.proofs.Table.{allows}
 use Rattle.ce_words.proofs.board.Board.raise_low.Goals as goal
 
-pub fetch_max-requires : goal.fetch_max-requires
-fetch_max-requires c =
+pub fetch_max-before-requires : goal.fetch_max-before-requires
+fetch_max-before-requires c =
     let seat = c.args.seat.now in
     let r = c.requires.seat in
     let proved = subst (λ (x : Run). IsLowerBoundOf (rows_of x) c.args.low) (sym r.run) c.requires.below in

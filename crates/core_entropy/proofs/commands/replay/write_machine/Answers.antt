@@ -5,7 +5,8 @@ use Rattle.ce_rows.specs.declared.interval.Interval.{Interval}
 use Rattle.core_entropy.specs.Angle.{line_of}
 use Rattle.core_entropy.specs.Replay.{replay_text}
 use Rattle.core_entropy.specs.declared.status.Status.TheVariants.{WriteFault, NoMemory}
-use Rattle.core_entropy.proofs.Ended.{rose_after, wrote_by, wrote_stopped}
+use Rattle.ce_desk.proofs.OneMore.{rose_since}
+use Rattle.core_entropy.proofs.Ended.{wrote_by, wrote_stopped}
 use Rattle.core_entropy.proofs.ReplayWritten.{interval_is, replay_part, replay_stays, replay_rest, replay_whole}
 use Rattle.core_entropy.proofs.commands.replay.write_machine.Goals as goal
 
@@ -42,7 +43,7 @@ returns-in_err-write_piece-clause-wrote g c =
     (g.O.Sink.taken c.args.out.now) (g.O.Sink.taken c.write_entries.new.out) (g.O.Sink.taken c.write_piece.new.out)
     (string_bytes c.write_entries.new.page) (string_bytes c.append_line.new.text)
     c.in_ok-write_entries.ensures.done put bytes in
-    let rose = rose_after _ _ _ c.in_ok-write_entries.ensures.counted c.in_err-write_piece.ensures.fault in
+    let rose = rose_since _ _ _ c.in_ok-write_entries.ensures.counted c.in_err-write_piece.ensures.fault in
     wrote_by g.O.Sink.taken g.O.Sink.faults c.args.out.now c.write_piece.new.out _
     c.from_residual-in_err-write_piece.result WriteFault c.from_residual-in_err-write_piece.ensures.1 (part, rose)
 

@@ -3,7 +3,8 @@ use Rattle.ce_port.specs.Sink.{GrewBy}
 use Rattle.ce_port.specs.WriteAll.{GrewByPrefix}
 use Rattle.core_entropy.specs.Show.{show_task}
 use Rattle.core_entropy.specs.declared.status.Status.TheVariants.{WriteFault}
-use Rattle.core_entropy.proofs.Ended.{ended_by, ended_stopped, rose_after}
+use Rattle.ce_desk.proofs.OneMore.{rose_since}
+use Rattle.core_entropy.proofs.Ended.{ended_by, ended_stopped}
 use Rattle.core_entropy.proofs.ShowTask.{shown, shown_part, shown_rest}
 use Rattle.core_entropy.proofs.commands.show.write_show.Goals as goal
 
@@ -29,7 +30,7 @@ returns-in_err-write_piece g c =
     (g.O.Sink.taken c.args.out.now) (g.O.Sink.taken c.write_rows.new.out) (g.O.Sink.taken c.write_piece.new.out)
     (string_bytes c.in_ok-page.page) (string_bytes c.write_rows.new.page) c.in_ok-page.ensures
     c.in_ok-write_rows.ensures.done bytes in
-    let rose = rose_after _ _ _ c.in_ok-write_rows.ensures.counted c.in_err-write_piece.ensures.fault in
+    let rose = rose_since _ _ _ c.in_ok-write_rows.ensures.counted c.in_err-write_piece.ensures.fault in
     ended_by g.O.Sink.taken g.O.Sink.faults (show_task c.args.angle) [] c.args.out.now c.write_piece.new.out
     c.from_residual-in_err-write_piece.result WriteFault c.from_residual-in_err-write_piece.ensures.1
     (ended_stopped g.O.Sink.taken g.O.Sink.faults c.args.out.now c.write_piece.new.out (show_task c.args.angle) []

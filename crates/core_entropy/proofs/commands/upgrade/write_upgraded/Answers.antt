@@ -4,7 +4,8 @@ use Rattle.ce_map.specs.Grammar.{end_line}
 use Rattle.ce_port.specs.Sink.{GrewBy}
 use Rattle.ce_port.specs.WriteAll.{GrewByPrefix}
 use Rattle.core_entropy.specs.declared.status.Status.TheVariants.{NoMemory, WriteFault}
-use Rattle.core_entropy.proofs.Ended.{rose_after, wrote_by, wrote_stopped}
+use Rattle.ce_desk.proofs.OneMore.{rose_since}
+use Rattle.core_entropy.proofs.Ended.{wrote_by, wrote_stopped}
 use Rattle.core_entropy.proofs.UpgradeTask.{few_items, header_begins, spelled_as, upgraded_part, upgraded_rest}
 use Rattle.core_entropy.proofs.UpgradeTask.{upgraded_stays, upgraded_whole}
 use Rattle.core_entropy.proofs.commands.upgrade.write_upgraded.Goals as goal
@@ -102,7 +103,7 @@ returns-in_err-write_piece-clause-wrote g c =
     c.append_end.new.text.items put written in
     wrote_by g.O.Sink.taken g.O.Sink.faults c.args.out.now c.write_piece.new.out _
     c.from_residual-in_err-write_piece.result WriteFault c.from_residual-in_err-write_piece.ensures.1
-    (part, rose_after _ _ _ c.in_ok-write_items.ensures.counted c.in_err-write_piece.ensures.fault)
+    (part, rose_since _ _ _ c.in_ok-write_items.ensures.counted c.in_err-write_piece.ensures.fault)
 
 pub returns-clause-wrote : goal.returns-clause-wrote
 returns-clause-wrote g c =

@@ -5,7 +5,8 @@ use Rattle.ce_port.specs.WriteAll.{GrewByPrefix}
 use Rattle.core_entropy.specs.Angle.{line_of}
 use Rattle.core_entropy.specs.Watch.{reading_line, watch_text}
 use Rattle.core_entropy.specs.declared.status.Status.TheVariants.{NoMemory, WriteFault}
-use Rattle.core_entropy.proofs.Ended.{rose_after, wrote_by, wrote_stopped}
+use Rattle.ce_desk.proofs.OneMore.{rose_since}
+use Rattle.core_entropy.proofs.Ended.{wrote_by, wrote_stopped}
 use Rattle.core_entropy.proofs.Paged.{paged_part, paged_rest, paged_stays, paged_whole}
 use Rattle.core_entropy.proofs.commands.watch.write_watched.Goals as goal
 
@@ -56,7 +57,7 @@ returns-in_err-write_piece-clause-wrote g c =
     c.in_ok-append_line.ensures written in
     wrote_by g.O.Sink.taken g.O.Sink.faults c.args.out.now c.write_piece.new.out _
     c.from_residual-in_err-write_piece.result WriteFault c.from_residual-in_err-write_piece.ensures.1
-    (part, rose_after _ _ _ c.in_ok-write_readings.ensures.counted c.in_err-write_piece.ensures.fault)
+    (part, rose_since _ _ _ c.in_ok-write_readings.ensures.counted c.in_err-write_piece.ensures.fault)
 
 pub returns-clause-wrote : goal.returns-clause-wrote
 returns-clause-wrote g c =

@@ -4,7 +4,7 @@ use Rattle.ce_angle.specs.Fraction.{Fraction}
 use Rattle.ce_angle.specs.declared.angle.AngleError.{AngleError}
 use Rattle.ce_orbit.specs.Orbit.{HasOrbitWithin}
 use Rattle.ce_rows.specs.declared.interval.Interval.{Interval}
-use Rattle.ce_desk.specs.Cases.{AreOpenSlots}
+use Rattle.ce_desk.specs.CasesInside.{AreOpenSlots}
 use Rattle.ce_desk.specs.Desk.{Slot, IsOpened, most_slots}
 use Rattle.ce_desk.specs.declared.opening.Slots.{Slots}
 use Rattle.ce_desk.specs.declared.settings.DeskSettings.{DeskSettings}

@@ -1,9 +1,9 @@
 -- Session and crew: what each needs and does. Source: this project's choice.
 use Rattle.std.specs.Prelude.{◌≡◌, ℕ, ◌<◌, List, length, slice_index_or, Option, Ok, Err}
 use Rattle.ce_crew.specs.declared.worker.Worker.{Worker}
-use Rattle.ce_desk.specs.Cases.{AreFirsts, KeepsTurns, CanRunSlot, HasRunSlot}
+use Rattle.ce_desk.specs.CasesInside.{AreFirsts, KeepsTurns, CanRunSlot, HasRunSlot}
 use Rattle.ce_desk.specs.Desk.{Slot, Desk}
-use Rattle.ce_desk.specs.Talks.{Streams, streams, IsTalk, IsNext}
+use Rattle.ce_desk.specs.TalksInside.{Streams, streams, IsTalk, IsNext}
 use Rattle.ce_desk.specs.declared.actor.Actor.{Actor}
 use Rattle.ce_desk.specs.declared.actor.Actor.TheVariants.{Session as ASession, Crew as ACrew}
 use Rattle.ce_desk.specs.declared.case.Case.{Case}

@@ -2,7 +2,7 @@
 use Rattle.std.specs.Prelude.{◌≡◌, ◌≢◌, ℕ, ◌%◌, ◌<◌, All, List, length, slice_index_or, Option}
 use Rattle.std.specs.Prelude.{None, Some}
 use Rattle.ce_crew.specs.declared.worker.Worker.{Worker}
-use Rattle.ce_desk.specs.Cases.{IsHiredFor, IsDoneFor, IsCase}
+use Rattle.ce_desk.specs.CasesInside.{IsHiredFor, IsDoneFor, IsCase}
 use Rattle.ce_desk.specs.Desk.{Slot}
 use Rattle.ce_desk.specs.declared.actor.Actor.{Actor}
 use Rattle.ce_desk.specs.declared.actor.Actor.TheVariants.{Crew as ACrew}

@@ -8,6 +8,7 @@ desk.stdin.write(f"open {sys.argv[1]} 400\n")
 for _ in range(1000):
     words = desk.stdout.readline().split()
     if words[0] == "refused":
+        print(*words)
         break
     low, high = int(words[-3]), int(words[-1])
     left, wide = (low / 2**32 - 1) * 60, (high - low) / 2**32 * 60

@@ -1,7 +1,7 @@
--- The bounds of a vector, as they are defined, bound the growth rate: whatever computes them.
+-- The bounds of a positive vector, as they are defined, bound the growth rate: whatever computes them.
 use Rattle.std.proofs.Common.{◌≡◌, ◌<◌, ◌≤◌, ◌*◌, ◌^◌, ◌∙◌, inl, inr, ℕ, min, List, length, refl, sym, subst, arith}
 use Rattle.std.proofs.Common.{eq-eqb, lit≤}
-use Rattle.std.specs.Prelude.{slice_index, map, ◌==◌}
+use Rattle.std.specs.Prelude.{All, slice_index, map, ◌==◌}
 use Rattle.std.specs.List.{range_with_len}
 use Rattle.std.proofs.lemmas.Bool.{cases_lt}
 use Rattle.std.proofs.lemmas.Grind.{div_ceil_times}
@@ -13,7 +13,6 @@ use Rattle.ce_rows.specs.Rows.{ScaledRows, AreScaledRows, IsLowerBoundOf, IsUppe
 use Rattle.ce_cert.specs.Certificate.{IsLowVector, IsHighVector}
 use Rattle.ce_cert.specs.Quotients.{quotient_down, quotient_up, scaled_sum, vertices_of, least_quotient, low_of}
 use Rattle.ce_cert.specs.Quotients.{high_of, greatest}
-use Rattle.ce_cert.specs.Vectors.{IsVectorOf}
 use Rattle.ce_cert.proofs.BoundsOf.{Contains-map, Contains-filter, Contains-range}
 use Rattle.ce_cert.proofs.Cut.{two_bounds}
 use Rattle.ce_cert.proofs.Extremes.{greatest_above, greatest_attained, least_below}
@@ -27,7 +26,7 @@ scale_small rows are = elim are.scale [
 ]
 
 module _ (rows : ScaledRows) (are : AreScaledRows rows) (ranks v : List ℕ) (ranking : IsRanking rows.list ranks)
-    (vector : IsVectorOf rows v) where
+    (each : length v ≡ length rows.list) (positive : All (λ x. 1 ≤ x) v) where
   -- no quotient of a rank is below the rank's least one
   rank_below : (i : ℕ) → i < length rows.list
       → least_quotient rows ranks v (slice_index ranks i) ≤ quotient_down rows ranks v i
@@ -59,8 +58,8 @@ module _ (rows : ScaledRows) (are : AreScaledRows rows) (ranks v : List ℕ) (ra
       let is : least_quotient rows ranks v rank ≡ greatest numbers =
       sym (get_or-map (least_quotient rows ranks v) ranks k 0 (greatest numbers) inside) ∙ here in
       subst (IsLowerBoundOf rows) is
-      (low_vector_bounds rows are ranks v rank (least_quotient rows ranks v rank) ranking.each vector.each
-      (Contains-get_or ranks k 0 inside) vector.positive (rank_vector rank))
+      (low_vector_bounds rows are ranks v rank (least_quotient rows ranks v rank) ranking.each each
+      (Contains-get_or ranks k 0 inside) positive (rank_vector rank))
 
   pub quotient_above : (i : ℕ) → i < length rows.list
       → quotient_up rows ranks v i ≤ greatest (map (quotient_up rows ranks v) (range_with_len 0 (length ranks)))
@@ -72,7 +71,7 @@ module _ (rows : ScaledRows) (are : AreScaledRows rows) (ranks v : List ℕ) (ra
   pub all_above : (high : ℕ) → ((i : ℕ) → i < length rows.list → quotient_up rows ranks v i ≤ high)
       → IsHighVector rows ranks v high
   all_above high most i within =
-      let one = vector.positive i 0 (omega (arith, vector.each, within)) in
+      let one = positive i 0 (omega (arith, each, within)) in
       let up = (div_ceil_times (scaled_sum rows ranks v i) (slice_index v i) (omega (arith, one))).0 in
       let more = mul-le-mul_right (slice_index v i) (most i within) in
       omega (arith, more, up)
@@ -87,7 +86,7 @@ module _ (rows : ScaledRows) (are : AreScaledRows rows) (ranks v : List ℕ) (ra
         | inl less ↦
             let same : min top (2 ^ 62) ≡ top = omega arith in
             subst (IsUpperBoundOf rows) (sym same)
-            (high_vector_bounds rows are ranks v top ranking vector.each vector.positive
+            (high_vector_bounds rows are ranks v top ranking each positive
             (all_above top quotient_above))
         | inr more ↦ two_bounds rows are (min top (2 ^ 62)) (omega (arith, small))
       ]

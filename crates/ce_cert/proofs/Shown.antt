@@ -81,13 +81,14 @@ module _ (rows : ScaledRows) (are : AreScaledRows rows) (ranks v : List ℕ) (ra
       (filter gives_low ranks) (low_rank_of rows ranks v) (filter_passes gives_low ranks) low_rank_found in
       let is = eqb-true (least_quotient rows ranks v (low_rank_of rows ranks v)) (low_of rows ranks v) passes in
       subst (IsLowVector rows ranks (low_rank_of rows ranks v) v) is
-      (rank_vector rows are ranks v ranking vector (low_rank_of rows ranks v))
+      (rank_vector rows are ranks v ranking vector.each vector.positive (low_rank_of rows ranks v))
 
   pub low_below_cut : low_of rows ranks v < 2 ^ 62
   low_below_cut =
       let top = 2 * 2 ^ rows.exponent in
       let most = low_at_most_high_of_rows rows (low_of rows ranks v) top
-      (low_is_lower_bound rows are ranks v ranking vector) (two_bounds rows are top (omega arith)) in
+      (low_is_lower_bound rows are ranks v ranking vector.each vector.positive)
+      (two_bounds rows are top (omega arith)) in
       omega (arith, most, two_is_small rows are)
 
   pub high_shown : high_of rows ranks v < 2 ^ 62 → IsHighVector rows ranks v (high_of rows ranks v)
@@ -96,4 +97,5 @@ module _ (rows : ScaledRows) (are : AreScaledRows rows) (ranks v : List ℕ) (ra
       let top = greatest (map (quotient_up rows ranks v) (range_with_len 0 (length ranks))) in
       let same : min top (2 ^ 62) ≡ top = omega (arith, less) in
       subst (IsHighVector rows ranks v) (sym same)
-      (all_above rows are ranks v ranking vector top (quotient_above rows are ranks v ranking vector))
+      (all_above rows are ranks v ranking vector.each vector.positive top
+      (quotient_above rows are ranks v ranking vector.each vector.positive))

@@ -74,14 +74,14 @@ module _ (rows : ScaledRows) (are : AreScaledRows rows) (ranks : List ℕ) (rank
         → IsLowerBoundOf rows (after_act s act (carried rows ranks own act)).low
     below_kept Raises below =
         greater_of (IsLowerBoundOf rows) s.low (low_of rows ranks own.copy) below
-        (low_is_lower_bound rows are ranks own.copy ranking h.vector)
+        (low_is_lower_bound rows are ranks own.copy ranking h.vector.each h.vector.positive)
     below_kept _ below = below
 
     above_kept : (act : Act) → IsUpperBoundOf rows s.high
         → IsUpperBoundOf rows (after_act s act (carried rows ranks own act)).high
     above_kept Lowers above =
         lesser_of (IsUpperBoundOf rows) s.high (high_of rows ranks own.copy) above
-        (high_is_upper_bound rows are ranks own.copy ranking h.vector)
+        (high_is_upper_bound rows are ranks own.copy ranking h.vector.each h.vector.positive)
     above_kept _ above = above
 
     pub narrowed : (act : Act) → LiesWithin s.low s.high (after_act s act (carried rows ranks own act))

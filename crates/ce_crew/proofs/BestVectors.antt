@@ -34,7 +34,7 @@ times_none is c (e ∷ es) none =
     let rest = times_none is c es none.1 in let here = offer_none is c e none.0 in omega (arith, rest, here)
 
 -- what one more step of a kind carries
-offered : (c d : ℕ) → 0 < cond (eqb c d) 1 0 → c ≡ d
+pub offered : (c d : ℕ) → 0 < cond (eqb c d) 1 0 → c ≡ d
 offered c d h = go (eqb c d) refl h
   where
     go : (b : Bool) → eqb c d ≡ b → 0 < cond b 1 0 → c ≡ d

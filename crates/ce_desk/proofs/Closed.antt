@@ -13,7 +13,6 @@ use Rattle.ce_crew.specs.Workers.{HasLog, log_of}
 use Rattle.ce_crew.specs.declared.worker.Worker.{Worker}
 use Rattle.ce_live.specs.Sessions.{SessionState}
 use Rattle.ce_live.specs.declared.reading.Reading.{Reading}
-use Rattle.ce_rows.specs.Rows.{EnclosesRows}
 use Rattle.ce_rows.specs.declared.interval.Interval.{Interval}
 use Rattle.ce_solve.specs.Actors.{IsOver, IsTold, IsFirstSeat, HasTurns, places_of, joined_all}
 use Rattle.ce_solve.specs.Actors.{readings_of}
@@ -32,7 +31,7 @@ use Rattle.ce_words.specs.Logs.{had, Each}
 use Rattle.ce_words.specs.Logs.{IsPossibleLog}
 use Rattle.ce_words.specs.Seats.{board_run}
 use Rattle.ce_words.specs.Steps.{IsSettled, WasSet, LiesInside}
-use Rattle.ce_words.specs.Views.{view, viewed, place, part, both_of, rows_of}
+use Rattle.ce_words.specs.Views.{view, viewed, place, part, both_of}
 use Rattle.ce_words.specs.declared.board.Board.{Board}
 use Rattle.ce_words.specs.declared.view.Part.{Part}
 use Rattle.ce_words.specs.declared.view.Place.{Place}
@@ -207,13 +206,11 @@ module _ (b : Board) (slot : Slot) (first : Seat (Unit {0}) View) (w : Worker)
   made_by false log =
       inl (w.made, subst (λ (p : Part). IsTurns (board_run b) p w.done (log_of w) w.made) d.over.worker.its_part log)
 
-  pub closes : EnclosesRows (rows_of (board_run b)) low high
-      → Closes slot (record { interval = record { low = low; high = high }; turns = w.done })
-  closes encloses = record {
+  pub closes : Closes slot (record { interval = record { low = low; high = high }; turns = w.done })
+  closes = record {
     place = there;
     is_run = run_is;
     made = subst (λ (r : Run). HasTurnsMade r there w.done) (sym h.run) (made_by w.halted d.over.worker.log);
-    encloses = subst (λ (r : Run). EnclosesRows (rows_of r) low high) (sym h.run) encloses;
     contain = contain;
     ends = ends;
   }

@@ -12,11 +12,9 @@ use Rattle.ce_lines.specs.Asks.{IsAsked}
 use Rattle.ce_lines.specs.declared.asked.Asked.TheVariants.{Open, Read, Quit}
 use Rattle.ce_lines.specs.declared.asked.Asked.{Asked}
 use Rattle.ce_orbit.specs.Orbit.{ForwardOrbit, IsForwardOrbit}
-use Rattle.ce_rows.specs.Rows.{EnclosesRows}
 use Rattle.ce_rows.specs.declared.interval.Interval.{Interval}
 use Rattle.ce_thurston.specs.Indices.{rows_at}
 use Rattle.ce_words.specs.Seats.{board_run}
-use Rattle.ce_words.specs.Views.{rows_of}
 use Rattle.ce_desk.proofs.Slots.{at_or_below}
 use Rattle.ce_desk.specs.CasesInside.{IsOpenSlot, IsOpenCase, AreOpenSlots}
 use Rattle.ce_desk.specs.Desk.{Slot, early_desk, IsOpenCause, IsFirstCause, IsLateIfOpen, OpensInTime}
@@ -90,7 +88,6 @@ has_opened settings typed turns number old new angle orbit o is of places few ca
         angle = sym of;
         granted = refl;
         run_of = case.run_of;
-        encloses = subst (λ (i : Interval). EnclosesRows (rows_of run) i.low i.high) case.initial case.encloses;
         told = refl;
       };
       angle = refl;

@@ -1,18 +1,35 @@
--- Replies keep the slots of a desk sound.
+-- Replies keep the slots of a desk sound, and what a sound slot closes with is true.
 use Rattle.std.proofs.Common.{◌+◌, ℕ, All, List, [], ◌∷◌, ◌++◌, Option, inl, inr, sym, subst}
 use Rattle.std.proofs.lemmas.List.Elements.{All-nil, All-cons, All-append, All-set}
+use Rattle.ce_angle.specs.Fraction.{Fraction}
 use Rattle.ce_desk.specs.Desk.{Slot, Desk}
 use Rattle.ce_desk.specs.DeskText.{Opens, Reads, IsReply, AreReplies, Closes}
 use Rattle.ce_desk.specs.Sound.{IsTrueOf, IsSound}
 use Rattle.ce_desk.specs.declared.closing.Closing.{Closing}
+use Rattle.ce_orbit.specs.Iterates.{most_places}
+use Rattle.ce_orbit.specs.Orbit.{HasOrbitWithin}
+use Rattle.ce_rows.specs.Scale.{IsExponent}
+use Rattle.ce_solve.proofs.Beginnings.{Begins, run_begins}
+use Rattle.ce_solve.proofs.TrueRuns.{known_ends_enclose, closing_ends}
+use Rattle.ce_solve.specs.SolvedRows.{IsRunOf}
+use Rattle.ce_thurston.proofs.OrbitRows.{rows_in_range}
+use Rattle.ce_thurston.specs.Indices.{rows_at}
+use Rattle.ce_words.specs.declared.view.Run.{Run}
 
-module _ (rounds exponent : ℕ) where
+module _ (rounds exponent : ℕ) (known : IsExponent exponent) where
+  -- The run of an orbit's rows begins with bounds that enclose.
+  begins : (angle : Fraction) (run : Run) (short : HasOrbitWithin most_places angle)
+      → IsRunOf (rows_at short.orbit exponent) rounds run → Begins run
+  begins angle run short h =
+      run_begins (rows_at short.orbit exponent) rounds run
+      (record { rows = rows_in_range short.orbit short.is_orbit short.few; scale = known }) h
+
   opened_sound : (desk after : Desk) (line : Option (List ℕ)) (text : List ℕ)
       → (o : Opens rounds exponent desk line after text) → IsSound rounds exponent o.slot
   opened_sound desk after line text o = record {
     short = o.short;
     run_of = o.opened.run_of;
-    initial = o.opened.encloses;
+    initial = (begins o.slot.angle o.slot.run o.short o.opened.run_of).encloses;
     told = subst (All (IsTrueOf o.slot.run)) (sym o.opened.told) (All-nil (IsTrueOf o.slot.run));
   }
 
@@ -52,9 +69,16 @@ module _ (rounds exponent : ℕ) where
   replies_sound k desk (line ∷ lines) after text (next, reply, rest, is, more, spelled) all =
       replies_sound (k + 1) next lines after rest more (reply_sound k desk line next reply is all)
 
--- The closing interval of a slot is true too.
-pub closing_true : (slot : Slot) (c : Closing) → Closes slot c → IsTrueOf slot.run c.interval
-closing_true slot c closes = record {
-  encloses = closes.encloses;
-  inside = record { from = closes.is_run.greatest.from; to = closes.is_run.least.from };
-}
+  -- The closing interval of a slot is true too.
+  pub closing_true : (slot : Slot) (c : Closing) → IsSound rounds exponent slot → Closes slot c
+      → IsTrueOf slot.run c.interval
+  closing_true slot c sound closes =
+      let low = c.interval.low in
+      let high = c.interval.high in
+      let places = closes.place ∷ [] in
+      record {
+        encloses = known_ends_enclose slot.run slot.turns places low high low high
+            (begins slot.angle slot.run sound.short sound.run_of) closes.is_run
+            (closing_ends slot.run slot.turns places low high closes.is_run);
+        inside = record { from = closes.is_run.greatest.from; to = closes.is_run.least.from };
+      }

@@ -6,14 +6,14 @@ use Rattle.ce_crew.specs.Workers.{IsWorker}
 use Rattle.ce_crew.specs.declared.worker.Worker.{Worker}
 use Rattle.ce_live.specs.Sessions.{reading, read_log, NeverWiden}
 use Rattle.ce_live.specs.declared.reading.Reading.{Reading}
-use Rattle.ce_rows.specs.Rows.{ScaledRows, EnclosesRows}
+use Rattle.ce_rows.specs.Rows.{ScaledRows}
 use Rattle.ce_rows.specs.declared.interval.Interval.{Interval}
 use Rattle.ce_solve.specs.Actors.{IsHiredWorker, IsOverWorker, HasRunWorker}
 use Rattle.ce_solve.specs.SolvedRows.{IsRunOf}
 use Rattle.ce_words.specs.Logs.{Each}
 use Rattle.ce_words.specs.Seats.{Sits, board_run}
 use Rattle.ce_words.specs.Steps.{LiesInside}
-use Rattle.ce_words.specs.Views.{view, part, seen_low, seen_high, rows_of}
+use Rattle.ce_words.specs.Views.{view, part, seen_low, seen_high}
 use Rattle.ce_words.specs.declared.board.Board.{Board}
 use Rattle.ce_words.specs.declared.view.Role.TheVariants.{First}
 use Rattle.ce_words.specs.declared.view.View.{View}
@@ -68,7 +68,6 @@ pub record IsOpenSlot (c : Case) (first : Seat (Unit {0}) View) (worker : Worker
 pub record IsOpenCase (rows : ScaledRows) (rounds turns : ℕ) (opened : Opened) : Type 0 where
   pub run_of : IsRunOf rows rounds (board_run opened.case.board)
   pub initial : opened.initial ≡ (board_run opened.case.board).initial
-  pub encloses : EnclosesRows (rows_of (board_run opened.case.board)) opened.initial.low opened.initial.high
   pub behind : (slot : Slot) → slot.turns ≡ turns → slot.run ≡ board_run opened.case.board → slot.told ≡ []
       → IsOpenSlot opened.case opened.first opened.worker slot
 

@@ -8,11 +8,9 @@ use Rattle.ce_lines.specs.Asks.{AsksOpen, AsksRead, IsAsked}
 use Rattle.ce_lines.specs.declared.asked.Asked.{Asked}
 use Rattle.ce_lines.specs.declared.asked.Asked.TheVariants.{Open}
 use Rattle.ce_orbit.specs.Orbit.{ForwardOrbit, HasOrbitWithin, HasOrbitAbove}
-use Rattle.ce_rows.specs.Rows.{EnclosesRows}
 use Rattle.ce_rows.specs.declared.interval.Interval.{Interval}
 use Rattle.ce_solve.specs.SolvedRows.{IsRunOf}
 use Rattle.ce_thurston.specs.Indices.{rows_at}
-use Rattle.ce_words.specs.Views.{rows_of}
 use Rattle.ce_words.specs.declared.view.Run.{Run}
 use Rattle.ce_desk.specs.declared.cause.Cause.{Cause}
 use Rattle.ce_desk.specs.declared.cause.Cause.TheVariants.{Form, Late, Angle, OrbitTooLong, Full, NoSlot, NoMemory}
@@ -91,5 +89,4 @@ pub record IsOpened (rounds exponent : ℕ) (orbit : ForwardOrbit) (turns : ℕ)
   pub angle : slot.angle ≡ orbit.angle
   pub granted : slot.turns ≡ turns
   pub run_of : IsRunOf (rows_at orbit exponent) rounds slot.run
-  pub encloses : EnclosesRows (rows_of slot.run) slot.run.initial.low slot.run.initial.high
   pub told : slot.told ≡ []

@@ -119,7 +119,6 @@ pub record Closes (slot : Slot) (closing : Closing) : Type 0 where
   pub place : Place
   pub is_run : IsRun slot.run slot.turns (place ∷ []) closing.interval.low closing.interval.high
   pub made : HasTurns slot.run place closing.turns
-  pub encloses : EnclosesRows (rows_of slot.run) closing.interval.low closing.interval.high
   pub contain : Each
       (λ (told : Interval). LiesInside told.low told.high closing.interval.low closing.interval.high) slot.told
   pub ends : Each (λ (told : Interval). HasKnownEnds slot.run (place ∷ []) told.low told.high) slot.told

@@ -16,7 +16,8 @@ pub record IsTrueOf (run : Run) (told : Interval) : Type 0 where
   pub encloses : EnclosesRows (rows_of run) told.low told.high
   pub inside : LiesInside run.initial.low run.initial.high told.low told.high
 
--- A slot was opened for the orbit of its angle, and each interval that was told of it is true.
+-- A slot was opened for the orbit of its angle, and the initial enclosure and each interval that was told of it are
+-- true.
 pub record IsSound (rounds exponent : ℕ) (slot : Slot) : Type 0 where
   pub short : HasOrbitWithin most_places slot.angle
   pub run_of : IsRunOf (rows_at short.orbit exponent) rounds slot.run

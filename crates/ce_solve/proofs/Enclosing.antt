@@ -50,10 +50,10 @@ module _ (rows : ScaledRows) (rounds turns workers : ℕ) (closing : Closing)
     same = numbering_unique rows.list are h.run.ranks ranks h.run_of.numbering numbering
 
     low_is : h.run.initial.low ≡ low_of rows ranks vector
-    low_is = h.run_of.low ∙ ap (λ (r : List ℕ). low_of rows r (power_vector rows.list r rounds)) same
+    low_is = h.run_of.bounds.low ∙ ap (λ (r : List ℕ). low_of rows r (power_vector rows.list r rounds)) same
 
     high_is : h.run.initial.high ≡ high_of rows ranks vector
-    high_is = h.run_of.high ∙ ap (λ (r : List ℕ). high_of rows r (power_vector rows.list r rounds)) same
+    high_is = h.run_of.bounds.high ∙ ap (λ (r : List ℕ). high_of rows r (power_vector rows.list r rounds)) same
 
     pub inside : LiesInside (low_of rows ranks vector) (high_of rows ranks vector) closing.evidence.low
         closing.evidence.high

@@ -2,6 +2,8 @@ pub mod Joins
 pub mod Closing
 mod ClosingEnds
 pub mod FloorEnds
+pub mod Beginnings
+pub mod TrueRuns
 pub mod Assembling
 pub mod After
 pub mod SolvedRuns

@@ -4,14 +4,23 @@ use Rattle.ce_cert.specs.Certificate.{Evidence}
 use Rattle.ce_cert.specs.Quotients.{low_of, low_rank_of, high_of}
 use Rattle.ce_comp.proofs.Unique.{numbering_unique}
 use Rattle.ce_rows.specs.Rows.{ScaledRows, AreRows, AreScaledRows}
+use Rattle.ce_rows.specs.declared.interval.Interval.{Interval}
 use Rattle.ce_vector.specs.PowerIteration.{power_vector}
 use Rattle.ce_vector.specs.Start.{start_of}
 use Rattle.ce_words.specs.Views.{rows_of}
 use Rattle.ce_words.specs.declared.view.Run.{Run}
 use Rattle.ce_solve.specs.ChaoticRun.{IsRun}
 use Rattle.ce_solve.specs.ClosingVectors.{IsClosingLow, IsClosingHigh}
-use Rattle.ce_solve.specs.SolvedRows.{Closing, IsRunOf, IsSolved}
+use Rattle.ce_solve.specs.SolvedRows.{AreInitialBounds, Closing, IsRunOf, IsSolved}
 use Rattle.ce_solve.proofs.LoneRuns.{are_two, one_low, one_high, one_low_vector, one_high_vector}
+
+-- The ranks determine the initial bounds.
+pub one_bounds : (rows : ScaledRows) (rounds : ℕ) (ranks others : List ℕ) (i j : Interval) → ranks ≡ others
+    → AreInitialBounds rows ranks rounds i → AreInitialBounds rows others rounds j → i ≡ j
+one_bounds rows rounds ranks others i j same h k =
+    let low = h.low ∙ (ap (λ (n : List ℕ). low_of rows n (power_vector rows.list n rounds)) same ∙ sym k.low) in
+    let high = h.high ∙ (ap (λ (n : List ℕ). high_of rows n (power_vector rows.list n rounds)) same ∙ sym k.high) in
+    (λ t. record { low = low t; high = high t })
 
 -- The rows and the rounds determine where a run begins.
 pub one_start : (rows : ScaledRows) (rounds : ℕ) (r s : Run) → AreRows rows.list → IsRunOf rows rounds r
@@ -20,14 +29,13 @@ one_start rows rounds r s are h k =
     let ranks = numbering_unique rows.list are r.ranks s.ranks h.numbering k.numbering in
     let list : rows_of r ≡ rows_of s = h.rows_are ∙ sym k.rows_are in
     let start = h.start_is ∙ (ap (λ (n : List ℕ). start_of rows.list n rounds) ranks ∙ sym k.start_is) in
-    let low = h.low ∙ (ap (λ (n : List ℕ). low_of rows n (power_vector rows.list n rounds)) ranks ∙ sym k.low) in
-    let high = h.high ∙ (ap (λ (n : List ℕ). high_of rows n (power_vector rows.list n rounds)) ranks ∙ sym k.high) in
+    let initial = one_bounds rows rounds r.ranks s.ranks r.initial s.initial ranks h.bounds k.bounds in
     (λ i. record {
       rows = (list i).list;
       exponent = (list i).exponent;
       ranks = ranks i;
       start = start i;
-      initial = record { low = low i; high = high i };
+      initial = initial i;
     })
 
 pub one_closing : (rows : ScaledRows) (rounds turns : ℕ) (closing other : Closing) → AreScaledRows rows

@@ -14,19 +14,19 @@ use Rattle.ce_words.specs.Views.{rows_of}
 use Rattle.ce_words.specs.declared.view.Run.{Run}
 use Rattle.ce_solve.specs.Actors.{IsInitialCertificate}
 use Rattle.ce_solve.specs.ClosingVectors.{IsClosingLow, IsClosingHigh}
-use Rattle.ce_solve.specs.Prepared.{IsPrepared, IsOpenedFor}
+use Rattle.ce_solve.specs.Prepared.{IsPrepared, MayBegin, IsOpenedFor}
 use Rattle.ce_cert.specs.Certificate.{AreBoundsIn}
 use Rattle.ce_solve.specs.SolvedRows.{IsRunOf, IsSolved, closing_in}
 use Rattle.ce_solve.specs.ActorsInside.{IsClosingOf}
 use Rattle.ce_solve.specs.declared.collecting.Solved.{Solved}
 use Rattle.ce_solve.specs.declared.preparing.Prepared.{Prepared}
 
-pub initial_is : (rows : ScaledRows) (rounds : ℕ) (p : Prepared) (run : Run) (c : Certificate)
-    → IsPrepared rows rounds p → IsOpenedFor rows p run
+pub initial_is : (rows : ScaledRows) (p : Prepared) (run : Run) (c : Certificate) → MayBegin rows p
+    → IsOpenedFor rows p run
     → c.ranks.items ≡ p.ranks.ranks → c.low ≡ p.bounds.low → c.low_rank ≡ p.bounds.low_rank → c.high ≡ p.bounds.high
     → c.low_vector.items ≡ p.vector.items → c.high_vector.items ≡ p.vector.items
     → IsInitialCertificate run c
-initial_is rows rounds p run c h o ranks low rank high lv hv =
+initial_is rows p run c h o ranks low rank high lv hv =
     let b : Bounds = record { low = c.low; low_rank = c.low_rank; high = c.high } in
     let same : p.bounds ≡ b = (λ i. record { low = sym low i; low_rank = sym rank i; high = sym high i }) in
     let one : AreBoundsIn rows p.ranks.ranks c.low_vector.items b =
@@ -41,7 +41,7 @@ initial_is rows rounds p run c h o ranks low rank high lv hv =
       high = high ∙ sym o.high;
       one_vector = hv ∙ sym lv;
       vector = subst (λ (r : ScaledRows). IsVectorOf r c.low_vector.items) (sym o.rows_are)
-          (subst (λ (v : List ℕ). IsVectorOf rows v) (sym lv) h.is_vector);
+          (subst (λ (v : List ℕ). IsVectorOf rows v) (sym lv) h.vector);
       bounds = two;
     }
 
@@ -54,8 +54,10 @@ run_of_rows rows rounds p run h o =
       rows_are = o.rows_are;
       numbering = subst (λ (rs : List ℕ). IsNumbering rows.list rs) (sym o.ranks_are) h.numbering;
       start_is = o.start_is ∙ ap scaled_up vector;
-      low = o.low ∙ (h.bounds.low ∙ (λ i. low_of rows (sym o.ranks_are i) (vector i)));
-      high = o.high ∙ (h.bounds.high ∙ (λ i. high_of rows (sym o.ranks_are i) (vector i)));
+      bounds = record {
+        low = o.low ∙ (h.bounds.low ∙ (λ i. low_of rows (sym o.ranks_are i) (vector i)));
+        high = o.high ∙ (h.bounds.high ∙ (λ i. high_of rows (sym o.ranks_are i) (vector i)));
+      };
     }
 
 pub solved_is : (rows : ScaledRows) (rounds turns workers count : ℕ) (p : Prepared) (run : Run) (u : List ℕ)

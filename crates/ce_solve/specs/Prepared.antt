@@ -1,6 +1,7 @@
 -- What a run begins with. Source: this project's choice.
 --
--- IsPrepared     components, a vector of power iteration, and its bounds (`prepare`)
+-- IsPrepared     components, a vector of power iteration, and its bounds (`prepare`, clause `prepared`)
+-- MayBegin       a run may begin with a ranking, a vector and its bounds (`prepare`, clause `begins`)
 -- IsOpenedFor    the start of a run on these: the vector scaled up, the bounds as initial enclosure
 --                (`open_board`, clause `run`)
 use Rattle.std.specs.Prelude.{◌≡◌, ◌*◌, ◌^◌, ◌<◌, ◌≤◌, ℕ, All}
@@ -20,14 +21,20 @@ use Rattle.ce_solve.specs.declared.preparing.Prepared.{Prepared}
 pub record IsPrepared (rows : ScaledRows) (rounds : ℕ) (p : Prepared) : Type 0 where
   pub are_rows : AreScaledRows rows
   pub numbering : IsNumbering rows.list p.ranks.ranks
-  pub ranking : IsRanking rows.list p.ranks.ranks
   pub vector : p.vector.items ≡ power_vector rows.list p.ranks.ranks rounds
-  pub is_vector : IsVectorOf rows p.vector.items
+  pub bounds : AreBoundsIn rows p.ranks.ranks p.vector.items p.bounds
+
+-- A run may begin with a ranking, with a vector that has room to be scaled up, and with its bounds, which
+-- enclose and lie from S to 2S.
+pub record MayBegin (rows : ScaledRows) (p : Prepared) : Type 0 where
+  pub scaled : AreScaledRows rows
+  pub ranking : IsRanking rows.list p.ranks.ranks
+  pub vector : IsVectorOf rows p.vector.items
   pub small : All (λ x. x < 2 ^ 58) p.vector.items
   pub bounds : AreBoundsIn rows p.ranks.ranks p.vector.items p.bounds
   pub encloses : EnclosesRows rows p.bounds.low p.bounds.high
-  pub at_least_one : 2 ^ rows.exponent ≤ p.bounds.low
-  pub at_most_two : p.bounds.high ≤ 2 * 2 ^ rows.exponent
+  pub from : 2 ^ rows.exponent ≤ p.bounds.low
+  pub to : p.bounds.high ≤ 2 * 2 ^ rows.exponent
 
 -- The start of a run on what was prepared.
 pub record IsOpenedFor (rows : ScaledRows) (p : Prepared) (run : Run) : Type 0 where
@@ -38,6 +45,6 @@ pub record IsOpenedFor (rows : ScaledRows) (p : Prepared) (run : Run) : Type 0 w
   pub start_is : run.start ≡ scaled_up p.vector.items
   pub starts : IsRunStart run
 
--- A run was opened for what was prepared, of some rows and rounds.
+-- A run was opened for what was prepared, of some rows.
 abbrev pub IsRunFor : Prepared → Run → Type 0
-IsRunFor p run = (rows : ScaledRows) × (rounds : ℕ) × IsPrepared rows rounds p × IsOpenedFor rows p run
+IsRunFor p run = (rows : ScaledRows) × MayBegin rows p × IsOpenedFor rows p run

@@ -1,5 +1,6 @@
 -- What a whole run over rows came to. Source: this project's choice.
 --
+-- AreInitialBounds   the initial enclosure, by the ranks of the components
 -- IsRunOf            where a run begins: its components, its vector, and its initial enclosure
 -- Closing            what a run hands out: a certificate's lists and numbers, and the readings
 -- IsSolved           it is the closing of a run of so many workers (`solve_rows`, clause `solved`; the law
@@ -11,6 +12,7 @@ use Rattle.ce_cert.specs.Evidence.{evidence_in}
 use Rattle.ce_cert.specs.Quotients.{low_of, low_rank_of, high_of}
 use Rattle.ce_comp.specs.Numbering.{IsNumbering}
 use Rattle.ce_rows.specs.Rows.{ScaledRows}
+use Rattle.ce_rows.specs.declared.interval.Interval.{Interval}
 use Rattle.ce_vector.specs.PowerIteration.{power_vector}
 use Rattle.ce_vector.specs.Start.{start_of}
 use Rattle.ce_words.specs.Logs.{Each}
@@ -24,14 +26,19 @@ use Rattle.ce_solve.specs.ChaoticRun.{IsRun, HasKnownEnds}
 use Rattle.ce_solve.specs.ClosingVectors.{IsClosingLow, IsClosingHigh}
 use Rattle.ce_solve.specs.declared.collecting.Solved.{Solved}
 
+-- An interval is the Collatz-Wielandt bounds of the vector after so many rounds of power iteration
+-- within the components. Sources: [HornJohnson], chapter 8; [Collatz1942], [Wielandt1950].
+pub record AreInitialBounds (rows : ScaledRows) (ranks : List ℕ) (rounds : ℕ) (interval : Interval) : Type 0 where
+  pub low : interval.low ≡ low_of rows ranks (power_vector rows.list ranks rounds)
+  pub high : interval.high ≡ high_of rows ranks (power_vector rows.list ranks rounds)
+
 -- A run of rows after so many rounds of power iteration: within the strongly connected components,
--- from the vector scaled up, and from its Collatz-Wielandt bounds.
+-- from the vector scaled up, and from its bounds.
 pub record IsRunOf (rows : ScaledRows) (rounds : ℕ) (run : Run) : Type 0 where
   pub rows_are : rows_of run ≡ rows
   pub numbering : IsNumbering rows.list run.ranks
   pub start_is : run.start ≡ start_of rows.list run.ranks rounds
-  pub low : run.initial.low ≡ low_of rows run.ranks (power_vector rows.list run.ranks rounds)
-  pub high : run.initial.high ≡ high_of rows run.ranks (power_vector rows.list run.ranks rounds)
+  pub bounds : AreInitialBounds rows run.ranks rounds run.initial
 
 -- What a run hands out: the lists and numbers of the certificate, and the readings.
 pub record Closing : Type 0 where

@@ -4,9 +4,9 @@ ghost use Rattle.std.specs.Prelude.{◌≡◌, ℕ, List, [], ◌∷◌, length}
 ghost use Rattle.ce_cert.specs.Quotients.{low_of, high_of};
 ghost use Rattle.ce_comp.specs.Numbering.{IsNumbering};
 ghost use Rattle.ce_rows.specs.Rows.{ScaledRows, AreRows, AreScaledRows, EnclosesRows};
-ghost use Rattle.ce_solve.specs.ChaoticRun.{IsRun};
+ghost use Rattle.ce_solve.specs.ChaoticRun.{IsRun, HasKnownEnds};
 ghost use Rattle.ce_solve.specs.ClosingVectors.{IsClosingLow, IsClosingHigh};
-ghost use Rattle.ce_solve.specs.SolvedRows.{Closing, IsSolved};
+ghost use Rattle.ce_solve.specs.SolvedRows.{Closing, IsRunOf, IsSolved};
 ghost use Rattle.ce_vector.specs.PowerIteration.{power_vector};
 ghost use Rattle.ce_words.specs.Logs.{Each};
 ghost use Rattle.ce_words.specs.Steps.{LiesInside};
@@ -48,6 +48,19 @@ pub fn solved_runs_enclose()
         → AreRows rows.list → IsNumbering rows.list ranks → IsSolved rows rounds turns workers closing
         → Each (λ r. LiesInside (low_of rows ranks (power_vector rows.list ranks rounds))
         (high_of rows ranks (power_vector rows.list ranks rounds)) r.interval.low r.interval.high) closing.readings }
+{}
+
+/// Whatever old values the workers of a run met, its bounds enclose the growth rate of its rows:
+/// those of the initial enclosure, the closing ones, and all that were certified on the way.
+pub fn runs_enclose()
+    ensures initial { (rows : ScaledRows) (rounds : ℕ) (run : Run) → AreScaledRows rows → IsRunOf rows rounds run
+        → EnclosesRows rows run.initial.low run.initial.high }
+    ensures closing { (rows : ScaledRows) (rounds turns : ℕ) (run : Run) (places : List Place) (low high : ℕ)
+        → AreScaledRows rows → IsRunOf rows rounds run → IsRun run turns places low high
+        → EnclosesRows rows low high }
+    ensures certified { (rows : ScaledRows) (rounds turns : ℕ) (run : Run) (places : List Place)
+        (low high least most : ℕ) → AreScaledRows rows → IsRunOf rows rounds run → IsRun run turns places low high
+        → HasKnownEnds run places least most → EnclosesRows rows least most }
 {}
 
 /// A run with one worker is determined: its log, step by step, the interval, the vectors, and with

@@ -3,7 +3,8 @@
 // `prepare` gives the initial enclosure. `solve_rows` takes all memory, has workers and sessions
 // run side by side by `run_crew`, and hands out by `collect` what they found: the closing of a run
 // of exactly so many workers, by the clause `solved`, which is IsSolved of specs/SolvedRows.
-// `solve` does it for an angle. The law `solved_runs_enclose` says what the numbers are worth.
+// `solve` does it for an angle. The law `solved_runs_enclose` says what the numbers are worth, and
+// `runs_enclose` why any torn copy is good enough.
 #![tactic(auto)]
 
 mod angle;
@@ -19,7 +20,9 @@ mod tests;
 pub use angle::{Answer, SolveError, solve};
 pub use collecting::{Solved, collect};
 pub use crew::{Actor, run_crew};
-pub use laws::{no_turns_change_nothing, one_worker_has_one_run, solved_runs_enclose};
+pub use laws::{
+    no_turns_change_nothing, one_worker_has_one_run, runs_enclose, solved_runs_enclose,
+};
 pub use preparing::{Prepared, prepare};
 pub use settings::Settings;
 pub use solving::{hire, open_board, solve_rows};

@@ -6,7 +6,7 @@ ghost use Rattle.ce_rows.specs.Blocks.{IsRanking};
 ghost use Rattle.ce_rows.specs.Rows.{IsLowerBoundOf, IsUpperBoundOf};
 ghost use Rattle.ce_rows.specs.Limits.{most_rounds};
 ghost use Rattle.ce_vector.specs.PowerIteration.{power_vector};
-ghost use Rattle.ce_solve.specs.Prepared.{IsPrepared};
+ghost use Rattle.ce_solve.specs.Prepared.{IsPrepared, MayBegin};
 ghost use Rattle.ce_cert.specs.Certificate.{AreBoundsIn};
 
 use ce_cert::{Bounds, bounds};
@@ -52,7 +52,8 @@ fn bounds_of(alloc: Global, rows: &Rows, ranks: &[u32], v: &[u64]) -> Result<Bou
 /// Collatz-Wielandt bounds, in units of the rows' scale.
 pub fn prepare(alloc: Global, rows: &Rows, rounds: u32) -> Result<Prepared, NoMemory>
     requires { rounds ≤ most_rounds }
-    ensures { IfOk result (IsPrepared rows.now rounds) }
+    ensures prepared { IfOk result (IsPrepared rows.now rounds) }
+    ensures begins { IfOk result (MayBegin rows.now) }
 {
     let _len = rows.len();
     let ranks = components(alloc, rows)?;

@@ -11,7 +11,7 @@ ghost use Rattle.ce_solve.specs.ActorsInside.{IsClosingOf, IsHired, IsSeatedSess
 ghost use Rattle.ce_solve.specs.ActorsInside.{sessions_in};
 ghost use Rattle.ce_rows.specs.Rows.{most_rows};
 ghost use Rattle.ce_rows.specs.Limits.{most_reads, most_rounds, most_sessions, most_turns, most_workers};
-ghost use Rattle.ce_solve.specs.Prepared.{IsPrepared, IsOpenedFor, IsRunFor};
+ghost use Rattle.ce_solve.specs.Prepared.{MayBegin, IsOpenedFor, IsRunFor};
 ghost use Rattle.ce_words.specs.Views.{cut_left};
 ghost use Rattle.ce_solve.specs.Actors.{worker_places, IsHiredWorker, IsFirstBelow, IsFirstSeat};
 ghost use Rattle.ce_solve.specs.Actors.{IsInitialCertificate};
@@ -35,7 +35,7 @@ pub fn open_board(
     rows: &Rows,
     prepared: &Prepared,
 ) -> Result<(Board, Seat), NoMemory>
-    requires { (rounds : ℕ) × (rounds ≤ most_rounds) × IsPrepared rows.now rounds prepared.now }
+    requires { MayBegin rows.now prepared.now }
     ensures run { IfOk result (λ made. IsOpenedFor rows.now prepared.now (board_run made.0)) }
     ensures seat { IfOk result (λ made. Sits made.0 made.1) }
     ensures view { IfOk result (λ made. view made.1 ≡ opened (board_run made.0)) }

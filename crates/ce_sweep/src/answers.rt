@@ -117,7 +117,7 @@ fn solve_by_keys<R: Threads + Sync, G: Gate + Sync>(
 }
 
 /// The classes of a list of angles with one solution for each class, which serves each angle of the
-/// class. The classes are handed to `rayon`, which solves them side by side.
+/// class. The classes are handed to `rayon`, which may solve them side by side.
 pub fn solve_classes<R: Threads + Sync, G: Gate + Sync>(
     rt: &R,
     alloc: Global,

@@ -90,8 +90,7 @@ inside_of_run rows rounds run interval are of inside = record {
     are_rows = are;
     ranks = run.ranks;
     numbering = of.numbering;
-    low = of.low;
-    high = of.high;
+    bounds = of.bounds;
   };
   from = inside.from;
   to = inside.to;

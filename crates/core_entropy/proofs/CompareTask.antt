@@ -1,5 +1,5 @@
 -- The task of the command `compare`.
-use Rattle.std.proofs.Common.{◌≡◌, ◌<◌, ◌≤◌, ◌⊎◌, ◌↔◌, ◌∙◌, inl, inr, ℕ, List, [], Option, refl, sym, subst}
+use Rattle.std.proofs.Common.{◌≡◌, ◌<◌, ◌⊎◌, ◌↔◌, ◌∙◌, inl, inr, ℕ, List, [], Option, refl, sym, subst}
 use Rattle.std.proofs.lemmas.List.Elements.{All-nil}
 use Rattle.ce_angle.specs.Fraction.{Fraction, IsAngle}
 use Rattle.ce_atlas.specs.Relation.{AreEqual, high_of_answer, low_of_answer}
@@ -83,15 +83,14 @@ module _ (x y : Answer) (a b : Fraction) (of_first : x.angle ≡ a) (of_second :
     (λ less. let other = below.1 less in cc, λ more. let other = above.1 more in cc),
   )
 
-module _ (settings : Settings) (still : settings.turns ≡ 0) (few : settings.rounds ≤ 36)
-    (known : IsExponent settings.scale)
+module _ (settings : Settings) (still : settings.turns ≡ 0) (known : IsExponent settings.scale)
     (a b : Fraction) (x y : Answer) (first : MayAnswer settings a x) (second : MayAnswer settings b y) where
   pub are_compared : (r : Relation) → (r ≡ Equal) ↔ AreEqual x y → (r ≡ Below) ↔ (high_of_answer x < low_of_answer y)
       → (r ≡ Above) ↔ (high_of_answer y < low_of_answer x) → AreCompared a b settings.rounds settings.scale r
   are_compared r same below above = record {
     first = interval_in x;
     second = interval_in y;
-    first_is = initial_of settings still few known a x first;
-    second_is = initial_of settings still few known b y second;
+    first_is = initial_of settings still known a x first;
+    second_is = initial_of settings still known b y second;
     is = relation_is x y a b first.angle second.angle r same below above;
   }

@@ -26,7 +26,7 @@ use Rattle.ce_rows.specs.Scale.{IsExponent}
 use Rattle.ce_rows.specs.declared.interval.Interval.{Interval}
 use Rattle.ce_thurston.proofs.OrbitRows.{rows_in_range}
 use Rattle.ce_thurston.specs.Indices.{rows_at}
-use Rattle.core_entropy.proofs.AngleTask.{claim_true}
+use Rattle.core_entropy.proofs.AngleTask.{claim_true, inside_of_run}
 use Rattle.core_entropy.specs.Desk.{AskForDesk, AskForAnyDesk, IsDesk, HasRunDesk, IsTrueSlot}
 use Rattle.core_entropy.specs.Desk.{TellsTruly, OpensTruly, DeskHeadline}
 use Rattle.core_entropy.specs.Headline.{IsTrueClaim}
@@ -44,18 +44,7 @@ module _ (rounds exponent : ℕ) (known : IsExponent exponent) where
       record { rows = rows_in_range o s.short.is_orbit s.short.few; scale = known } in
       claim_true o slot.angle rounds exponent told s.short.is_orbit s.short.of_angle
       (subst (λ (r : ScaledRows). EnclosesRows r told.low told.high) s.run_of.rows_are t.encloses)
-      (record {
-        initial = slot.run.initial;
-        is_initial = record {
-          are_rows = are;
-          ranks = slot.run.ranks;
-          numbering = s.run_of.numbering;
-          low = s.run_of.low;
-          high = s.run_of.high;
-        };
-        from = t.inside.from;
-        to = t.inside.to;
-      })
+      (inside_of_run (rows_at o exponent) rounds slot.run told are s.run_of t.inside)
 
   slot_true : (slot : Slot) → IsSound rounds exponent slot → IsTrueSlot rounds exponent slot
   slot_true slot s = record {
@@ -70,7 +59,7 @@ module _ (rounds exponent : ℕ) (known : IsExponent exponent) where
   slots_sound : (lines : List (Option (List ℕ))) (desk : Desk) (text : List ℕ)
       → AreReplies rounds exponent 1 empty_desk lines desk text → All (IsSound rounds exponent) desk.slots
   slots_sound lines desk text replies =
-      replies_sound rounds exponent 1 empty_desk lines desk text replies (All-nil (IsSound rounds exponent))
+      replies_sound rounds exponent known 1 empty_desk lines desk text replies (All-nil (IsSound rounds exponent))
 
   slots_true : (lines : List (Option (List ℕ))) (desk : Desk) (text : List ℕ)
       → AreReplies rounds exponent 1 empty_desk lines desk text → All (IsTrueSlot rounds exponent) desk.slots
@@ -87,8 +76,9 @@ module _ (rounds exponent : ℕ) (known : IsExponent exponent) where
     closings = λ i x c below.
         let slot = slice_index_or t.desk.slots i x in
         let closing = slice_index_or t.closings i c in
-        interval_true slot (slots_sound lines t.desk t.replies t.are_replies i x below) closing.interval
-        (closing_true slot closing (t.close.each i x c below));
+        let sound = slots_sound lines t.desk t.replies t.are_replies i x below in
+        interval_true slot sound closing.interval
+        (closing_true rounds exponent known slot closing sound (t.close.each i x c below));
   }
 
   opening_true : (lines : List (Option (List ℕ))) (text : List ℕ) → IsOpeningText rounds exponent lines text

@@ -1,30 +1,22 @@
 -- Initial enclosures enclose.
-use Rattle.std.proofs.Common.{◌≡◌, ◌≤◌, ◌+◌, ◌*◌, ◌^◌, ℕ, sym, subst}
-use Rattle.ce_cert.proofs.Defined.{low_is_lower_bound, high_is_upper_bound}
+use Rattle.std.proofs.Common.{◌≡◌, ◌≤◌, ◌+◌, ◌*◌, ◌^◌, ℕ, subst}
 use Rattle.ce_comp.proofs.Rankings.{numbering_is_ranking}
 use Rattle.ce_orbit.specs.Orbit.{ForwardOrbit, IsForwardOrbit}
 use Rattle.ce_rows.specs.Growth.{Encloses, IsGrowthLowerBound, IsGrowthUpperBound}
-use Rattle.ce_rows.specs.Rows.{ScaledRows, EnclosesRows, IsLowerBoundOf, IsUpperBoundOf, all_walks}
+use Rattle.ce_rows.specs.Rows.{ScaledRows, EnclosesRows, all_walks}
 use Rattle.ce_rows.specs.declared.interval.Interval.{Interval}
 use Rattle.ce_thurston.specs.Indices.{rows_of_orbit}
 use Rattle.ce_thurston.specs.Pairs.{pair_walks}
 use Rattle.ce_thurston.proofs.OrbitRows.{rows_total}
-use Rattle.ce_vector.specs.PowerIteration.{power_vector}
 use Rattle.core_entropy.specs.InitialEnclosure.{IsInitialEnclosure}
 use Rattle.ce_thurston.specs.Indices.{rows_at}
-use Rattle.ce_solve.proofs.FloorEnds.{floor_vector}
+use Rattle.ce_solve.proofs.Beginnings.{initial_enclose}
 
-pub initial_encloses : (rows : ScaledRows) (rounds : ℕ) (interval : Interval) → rounds ≤ 36
+pub initial_encloses : (rows : ScaledRows) (rounds : ℕ) (interval : Interval)
     → IsInitialEnclosure rows rounds interval → EnclosesRows rows interval.low interval.high
-initial_encloses rows rounds interval few h =
-    let ranking = numbering_is_ranking rows.list h.ranks h.numbering in
-    let vector = floor_vector rows h.are_rows h.ranks ranking rounds few in
-    record {
-      below = subst (IsLowerBoundOf rows) (sym h.low)
-          (low_is_lower_bound rows h.are_rows h.ranks (power_vector rows.list h.ranks rounds) ranking vector);
-      above = subst (IsUpperBoundOf rows) (sym h.high)
-          (high_is_upper_bound rows h.are_rows h.ranks (power_vector rows.list h.ranks rounds) ranking vector);
-    }
+initial_encloses rows rounds interval h =
+    initial_enclose rows h.ranks rounds interval h.are_rows
+    (numbering_is_ranking rows.list h.ranks h.numbering) h.bounds
 
 -- What encloses the growth of counts encloses that of the same counts.
 pub same_growth : (exponent : ℕ) (count other : ℕ → ℕ) (low high : ℕ) → ((n : ℕ) → count n ≡ other n)

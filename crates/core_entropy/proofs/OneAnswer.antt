@@ -54,13 +54,13 @@ one_table one order rounds exponent text other h k =
     h.spelled ∙ one (still rounds exponent) order h.rows k.rows refl h.atlas k.atlas ∙ sym k.spelled
 
 -- Two angles with their initial enclosures stand to each other in one way.
-module _ (a b : Fraction) (rounds exponent : ℕ) (few : rounds ≤ 36) (i j : Interval)
+module _ (a b : Fraction) (rounds exponent : ℕ) (i j : Interval)
     (x : IsInitialOf rounds exponent a i) (y : IsInitialOf rounds exponent b j) where
   first_ordered : i.low ≤ i.high
-  first_ordered = (one_to_two (rows_at x.orbit exponent) rounds i few x.initial).ordered
+  first_ordered = (one_to_two (rows_at x.orbit exponent) rounds i x.initial).ordered
 
   second_ordered : j.low ≤ j.high
-  second_ordered = (one_to_two (rows_at y.orbit exponent) rounds j few y.initial).ordered
+  second_ordered = (one_to_two (rows_at y.orbit exponent) rounds j y.initial).ordered
 
   -- With one kneading sequence they have one transition matrix, and so one initial enclosure.
   same_initial : HaveSameKneading a b → i ≡ j
@@ -111,15 +111,15 @@ module _ (a b : Fraction) (rounds exponent : ℕ) (few : rounds ≤ 36) (i j : I
   one_relation Open Above h k = absurd (h.1.1 k)
   one_relation Open Open h k = refl
 
-pub one_comparison : (a b : Fraction) (rounds exponent : ℕ) (text other : List ℕ) → rounds ≤ 36
+pub one_comparison : (a b : Fraction) (rounds exponent : ℕ) (text other : List ℕ)
     → IsCompareText a b rounds exponent text → IsCompareText a b rounds exponent other → text ≡ other
-one_comparison a b rounds exponent text other few h k =
+one_comparison a b rounds exponent text other h k =
     let x = h.compared in
     let y = k.compared in
     let first = one_initial rounds exponent a y.first x.first y.first_is x.first_is in
     let second = one_initial rounds exponent b y.second x.second y.second_is x.second_is in
     let at_first = subst (λ i. IsRelation a b i y.second k.relation) first y.is in
     let at_both = subst (λ j. IsRelation a b x.first j k.relation) second at_first in
-    let same = one_relation a b rounds exponent few x.first x.second x.first_is x.second_is h.relation k.relation
+    let same = one_relation a b rounds exponent x.first x.second x.first_is x.second_is h.relation k.relation
     x.is at_both in
     h.spelled ∙ ap (compare_line a b) same ∙ sym k.spelled

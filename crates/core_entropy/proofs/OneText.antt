@@ -2,7 +2,6 @@
 use Rattle.std.proofs.Common.{◌≡◌, ◌∙◌, ℕ, List, length, sym, ap, subst, arith}
 use Rattle.ce_angle.specs.Fraction.{Fraction}
 use Rattle.ce_cert.specs.Certificate.{Evidence}
-use Rattle.ce_cert.specs.Quotients.{low_of, high_of}
 use Rattle.ce_comp.proofs.Unique.{numbering_unique}
 use Rattle.ce_core.specs.Script.{IsScriptOf}
 use Rattle.ce_core.proofs.Scripts.{one_list}
@@ -12,13 +11,12 @@ use Rattle.ce_rows.specs.Events.{Shared}
 use Rattle.ce_rows.specs.Rows.{AreScaledRows, ScaledRows}
 use Rattle.ce_rows.specs.Scale.{IsExponent}
 use Rattle.ce_solve.specs.SolvedRows.{Closing, IsSolved}
-use Rattle.ce_solve.proofs.LoneClosing.{one_closing}
+use Rattle.ce_solve.proofs.LoneClosing.{one_bounds, one_closing}
 use Rattle.ce_solve.proofs.NoTurns.{low_stays, high_stays}
 use Rattle.ce_thurston.proofs.OrbitRows.{rows_in_range}
 use Rattle.ce_rows.specs.declared.event.Event.{Event}
 use Rattle.ce_rows.specs.declared.interval.Interval.{Interval}
 use Rattle.ce_thurston.specs.Indices.{rows_of_orbit}
-use Rattle.ce_vector.specs.PowerIteration.{power_vector}
 use Rattle.core_entropy.specs.Angle.{IsAngleText, interval_of, line_of}
 use Rattle.core_entropy.specs.InitialEnclosure.{IsInitialEnclosure}
 use Rattle.ce_thurston.specs.Indices.{rows_at}
@@ -35,9 +33,7 @@ pub one_enclosure : (rows : ScaledRows) (rounds : ℕ) (i j : Interval) → IsIn
     → IsInitialEnclosure rows rounds j → i ≡ j
 one_enclosure rows rounds i j h k =
     let ranks = numbering_unique rows.list h.are_rows.rows h.ranks k.ranks h.numbering k.numbering in
-    let low = ap (λ r. low_of rows r (power_vector rows.list r rounds)) ranks in
-    let high = ap (λ r. high_of rows r (power_vector rows.list r rounds)) ranks in
-    same_interval i j (h.low ∙ low ∙ sym k.low) (h.high ∙ high ∙ sym k.high)
+    one_bounds rows rounds h.ranks k.ranks i j ranks h.bounds k.bounds
 
 -- With no turns a run is_initial at the initial enclosure.
 pub closing_is_initial : (rows : ScaledRows) (rounds workers : ℕ) (e : Closing) → AreScaledRows rows
@@ -46,8 +42,10 @@ closing_is_initial rows rounds workers e are h = record {
   are_rows = are;
   ranks = h.run.ranks;
   numbering = h.run_of.numbering;
-  low = low_stays h.run e.evidence.low e.evidence.high h.places h.is_run ∙ h.run_of.low;
-  high = high_stays h.run e.evidence.low e.evidence.high h.places h.is_run ∙ h.run_of.high;
+  bounds = record {
+    low = low_stays h.run e.evidence.low e.evidence.high h.places h.is_run ∙ h.run_of.bounds.low;
+    high = high_stays h.run e.evidence.low e.evidence.high h.places h.is_run ∙ h.run_of.bounds.high;
+  };
 }
 
 pub one_line : (angle : Fraction) (rounds workers exponent : ℕ) (line other : List ℕ) → IsExponent exponent

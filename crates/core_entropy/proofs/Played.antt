@@ -59,10 +59,10 @@ replay_sound rows rounds initial events few is_initial encloses below =
       ranking = numbering_is_ranking rows.list is_initial.ranks is_initial.numbering;
       vector = start_is_vector rows is_initial.ranks rounds few;
       encloses = encloses;
-      from = rw is_initial.low
+      from = rw is_initial.bounds.low
           (floor_low rows is_initial.are_rows is_initial.ranks
           (numbering_is_ranking rows.list is_initial.ranks is_initial.numbering) rounds);
-      to = rw is_initial.high
+      to = rw is_initial.bounds.high
           (floor_high rows is_initial.are_rows is_initial.ranks
           (numbering_is_ranking rows.list is_initial.ranks is_initial.numbering) rounds);
     } in

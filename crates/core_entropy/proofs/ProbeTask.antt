@@ -139,19 +139,19 @@ unfolding least greatest
 summary_none exponent = refl
 
 -- Initial enclosures lie from one to two.
-pub one_to_two : (rows : ScaledRows) (rounds : ℕ) (interval : Interval) → rounds ≤ 36
+pub one_to_two : (rows : ScaledRows) (rounds : ℕ) (interval : Interval)
     → IsInitialEnclosure rows rounds interval → IsOneToTwo rows.exponent interval
-one_to_two rows rounds interval few h =
+one_to_two rows rounds interval h =
     let ranking = numbering_is_ranking rows.list h.ranks h.numbering in
-    let encloses = initial_encloses rows rounds interval few h in
+    let encloses = initial_encloses rows rounds interval h in
     record {
-      one = subst (λ n. 2 ^ rows.exponent ≤ n) (sym h.low) (floor_low rows h.are_rows h.ranks ranking rounds);
+      one = subst (λ n. 2 ^ rows.exponent ≤ n) (sym h.bounds.low) (floor_low rows h.are_rows h.ranks ranking rounds);
       ordered = low_at_most_high_of_rows rows interval.low interval.high encloses.below encloses.above;
-      two = subst (λ n. n ≤ 2 * 2 ^ rows.exponent) (sym h.high) (floor_high rows h.are_rows h.ranks ranking rounds);
+      two = subst (λ n. n ≤ 2 * 2 ^ rows.exponent) (sym h.bounds.high)
+          (floor_high rows h.are_rows h.ranks ranking rounds);
     }
 
-module _ (settings : Settings) (still : settings.turns ≡ 0) (few : settings.rounds ≤ 36)
-    (known : IsExponent settings.scale) where
+module _ (settings : Settings) (still : settings.turns ≡ 0) (known : IsExponent settings.scale) where
   pub initial_of : (angle : Fraction) (answer : Answer) → MayAnswer settings angle answer
       → IsInitialOf settings.rounds settings.scale angle (interval_in answer)
   initial_of angle answer may =
@@ -170,7 +170,7 @@ module _ (settings : Settings) (still : settings.turns ≡ 0) (few : settings.ro
       → IsOneToTwo settings.scale (interval_in answer)
   answer_bounded angle answer may =
       let initial = initial_of angle answer may in
-      one_to_two (rows_at initial.orbit settings.scale) settings.rounds (interval_in answer) few initial.initial
+      one_to_two (rows_at initial.orbit settings.scale) settings.rounds (interval_in answer) initial.initial
 
   module _ (angles : List Fraction) (answers : List Answer) (each : AllZip (MayAnswer settings) angles answers) where
     pub all_bounded : All (IsOneToTwo settings.scale) (intervals_in answers)
@@ -244,8 +244,8 @@ module _ (exponent : ℕ) (answers : List Answer) (i : ℕ) (a : Answer) (interv
       subst (IsOneToTwo exponent) (get_or-map interval_in answers i a ∙ ap interval_in (sym here) ∙ sym is) at
 
 -- The answers of a probe.
-module _ (settings : Settings) (still : settings.turns ≡ 0) (few : settings.rounds ≤ 36)
-    (known : IsExponent settings.scale) (start count : ℕ) (answers handed : List Answer)
+module _ (settings : Settings) (still : settings.turns ≡ 0) (known : IsExponent settings.scale) (start count : ℕ)
+    (answers handed : List Answer)
     (each : AllZip (MayAnswer settings) (probe_angles_of start count) answers) (given : handed ≡ answers) where
   pub probe_few : count ≤ 10000 → length handed ≤ 10000
   probe_few most =
@@ -255,7 +255,7 @@ module _ (settings : Settings) (still : settings.turns ≡ 0) (few : settings.ro
 
   pub probe_bounded : All (IsOneToTwo settings.scale) (intervals_in handed)
   probe_bounded = subst (λ l. All (IsOneToTwo settings.scale) (intervals_in l)) (sym given)
-      (all_bounded settings still few known (probe_angles_of start count) answers each)
+      (all_bounded settings still known (probe_angles_of start count) answers each)
 
   pub probe_is : (exponent : ℕ) (summary : Summary) → exponent ≡ settings.scale
       → summary ≡ summary_of settings.scale (intervals_in handed) → (r : Result (String Global) NoMemory)
@@ -265,5 +265,5 @@ module _ (settings : Settings) (still : settings.turns ≡ 0) (few : settings.ro
       let total : summary ≡ summary_of settings.scale (intervals_in answers) = sum
       ∙ ap (λ l. summary_of settings.scale (intervals_in l)) given in
       probe_spelled start count settings.rounds settings.scale (intervals_in answers)
-      (all_initial settings still few known (probe_angles_of start count) answers each) r
+      (all_initial settings still known (probe_angles_of start count) answers each) r
       (IfOk-weaker r _ _ (λ text is. is ∙ λ i. probe_text start count settings.rounds (same i) (total i)) spelled)

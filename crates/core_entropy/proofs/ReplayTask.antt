@@ -84,7 +84,7 @@ module _ (angle : Fraction) (rounds exponent : ℕ) (few : rounds ≤ 36) where
       let rows = rows_at h.orbit exponent in
       let sound =
       replay_sound rows rounds h.initial h.events few h.is_initial
-      (initial_encloses rows rounds h.initial few h.is_initial) h.read.below in
+      (initial_encloses rows rounds h.initial h.is_initial) h.read.below in
       let encloses = subst (λ (s : Shared). EnclosesRows rows s.low s.high) (sym h.after) sound.encloses in
       let inside : IsInsideInitial rows (shared_interval h.shared) rounds = record {
         initial = h.initial;

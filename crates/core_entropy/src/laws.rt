@@ -6,7 +6,7 @@ ghost use Rattle.ce_rows.specs.Blocks.{IsRanking};
 ghost use Rattle.ce_rows.specs.Growth.{Encloses};
 ghost use Rattle.ce_rows.specs.Scale.{IsExponent};
 ghost use Rattle.ce_rows.specs.Rows.{ScaledRows, AreScaledRows};
-ghost use Rattle.ce_rows.specs.Limits.{greatest_order, most_rounds};
+ghost use Rattle.ce_rows.specs.Limits.{greatest_order};
 ghost use Rattle.ce_vector.specs.PowerIteration.{power_vector};
 ghost use Rattle.ce_cert.specs.Quotients.{low_of, high_of};
 ghost use Rattle.ce_angle.specs.Fraction.{Fraction};
@@ -90,7 +90,7 @@ pub fn texts_are_unique()
     ensures atlas { (order rounds exponent : ℕ) (text other : List ℕ)
         → IsAtlasText order rounds exponent text → IsAtlasText order rounds exponent other
         → text ≡ other }
-    ensures compare { (a b : Fraction) (rounds exponent : ℕ) (text other : List ℕ) → rounds ≤ most_rounds
+    ensures compare { (a b : Fraction) (rounds exponent : ℕ) (text other : List ℕ)
         → IsCompareText a b rounds exponent text → IsCompareText a b rounds exponent other
         → text ≡ other }
 {

@@ -18,5 +18,4 @@ returns c = λ slot first done.
     subst (λ (n : ℕ). Closes slot (record { interval = record { low = low; high = high }; turns = n }))
     (sym c.done-turns.ensures)
     (closes c.args.board.now slot c.args.first.now c.args.worker first done low high s
-    (subst WasSet joined c.settled-interval.ensures.set)
-    c.settled-interval.ensures.encloses)
+    (subst WasSet joined c.settled-interval.ensures.set))

@@ -5,8 +5,8 @@ use Rattle.ce_desk.specs.Sound.{IsSound}
 use Rattle.ce_desk.proofs.laws.desks_tell_truly.Goals as goal
 
 pub returns-clause-replies : goal.returns-clause-replies
-returns-clause-replies c = λ rounds exponent lines desk text replies.
-    replies_sound rounds exponent 1 empty_desk lines desk text replies (All-nil (IsSound rounds exponent))
+returns-clause-replies c = λ rounds exponent lines desk text known replies.
+    replies_sound rounds exponent known 1 empty_desk lines desk text replies (All-nil (IsSound rounds exponent))
 
 pub returns-clause-closings : goal.returns-clause-closings
-returns-clause-closings c = closing_true
+returns-clause-closings c = λ rounds exponent slot closing known. closing_true rounds exponent known slot closing

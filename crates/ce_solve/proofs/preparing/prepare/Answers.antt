@@ -23,8 +23,21 @@ bounds_of-requires-clause-vector c =
     (λ (r : List ℕ). power_vector c.args.rows.now.list r c.args.rounds) c.as_slice.ensures.value in
     subst (λ (v : List ℕ). IsVectorOf c.args.rows.now v) (sym same) vector
 
-pub returns : goal.returns
-returns c =
+pub returns-clause-prepared : goal.returns-clause-prepared
+returns-clause-prepared c =
+    let ranks = c.in_ok-ranks.ranks.ranks in
+    record {
+      are_rows = c.len-len.ensures.rows;
+      numbering = c.in_ok-ranks.ensures.numbering;
+      vector = c.in_ok-vector.ensures
+          ∙ ap (λ (r : List ℕ). power_vector c.args.rows.now.list r c.args.rounds) c.as_slice.ensures.value;
+      bounds = subst (λ (v : List ℕ). AreBoundsIn c.args.rows.now ranks v c.in_ok-bounds.bounds) c.deref.ensures.value
+          (subst (λ (r : List ℕ). AreBoundsIn c.args.rows.now r c.deref.result.now c.in_ok-bounds.bounds)
+          c.as_slice-2.ensures.value c.in_ok-bounds.ensures.bounds);
+    }
+
+pub returns-clause-begins : goal.returns-clause-begins
+returns-clause-begins c =
     let rows = c.args.rows.now in let ranks = c.in_ok-ranks.ranks.ranks in let are = c.len-len.ensures.rows in
     let ranking = numbering_is_ranking rows.list ranks c.in_ok-ranks.ensures.numbering in
     let made : c.in_ok-vector.vector.items ≡ power_vector rows.list ranks c.args.rounds =
@@ -40,15 +53,13 @@ returns c =
     let high : b.high ≡ high_of rows ranks (power_vector rows.list ranks c.args.rounds) =
     bounds.high ∙ ap (λ (v : List ℕ). high_of rows ranks v) made in
     record {
-      are_rows = are;
-      numbering = c.in_ok-ranks.ensures.numbering;
+      scaled = are;
       ranking = ranking;
-      vector = made;
-      is_vector = vector;
+      vector = vector;
       small = subst (λ (v : List ℕ). All (λ x. x < 2 ^ 58) v) (sym made)
           (power_vector-small rows.list ranks c.args.rounds c.requires);
       bounds = bounds;
       encloses = record { below = e.below; above = e.above };
-      at_least_one = rw low (floor_low rows are ranks ranking c.args.rounds);
-      at_most_two = rw high (floor_high rows are ranks ranking c.args.rounds);
+      from = rw low (floor_low rows are ranks ranking c.args.rounds);
+      to = rw high (floor_high rows are ranks ranking c.args.rounds);
     }

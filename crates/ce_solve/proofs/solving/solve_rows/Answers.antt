@@ -31,8 +31,9 @@ run_and_collect-requires-clause-parts g c t lives =
 pub run_and_collect-requires-clause-initial : goal.run_and_collect-requires-clause-initial
 run_and_collect-requires-clause-initial g c t lives =
     let f = c.in_ok-initial.ensures in
-    initial_is c.args.rows.now c.args.settings.rounds c.in_ok-prepared.prepared
-    (board_run c.in_ok-board.board) c.in_ok-initial.initial c.in_ok-prepared.ensures c.in_ok-board.ensures.run f.ranks
+    initial_is c.args.rows.now c.in_ok-prepared.prepared
+    (board_run c.in_ok-board.board) c.in_ok-initial.initial c.in_ok-prepared.ensures.begins
+    c.in_ok-board.ensures.run f.ranks
     f.low f.low_rank f.high f.low_vector f.high_vector
 
 pub returns-clause-solved : goal.returns-clause-solved
@@ -45,7 +46,7 @@ returns-clause-solved g c =
     let hired = subst (λ (u : List ℕ). All (IsHired b u s.turns s.reads) xs) (sym f.low_vector) e.hired in
     solved_is c.args.rows.now s.rounds s.turns s.workers (length (worker_places xs)) c.in_ok-prepared.prepared
     (board_run b) c.in_ok-initial.initial.low_vector.items c.run_and_collect.result
-    c.in_ok-prepared.ensures c.in_ok-board.ensures.run f.low_vector e.count
+    c.in_ok-prepared.ensures.prepared c.in_ok-board.ensures.run f.low_vector e.count
     (c.run_and_collect.ensures.closing s.turns s.reads hired)
 
 pub returns-clause-readings : goal.returns-clause-readings

@@ -14,6 +14,6 @@ pub returns-clause-relation : goal.returns-clause-relation
 returns-clause-relation g c =
     let settings = still c.args.rounds c.args.scale in
     let r = c.relate.ensures in
-    are_compared settings refl c.requires.rounds c.exponent-exponent.ensures.known c.args.a c.args.b c.in_ok-first.first
+    are_compared settings refl c.exponent-exponent.ensures.known c.args.a c.args.b c.in_ok-first.first
     c.in_ok-second.second c.in_ok-first.ensures.answer c.in_ok-second.ensures.answer
     c.relate.result r.equal r.below r.above

@@ -11,30 +11,32 @@ use Rattle.core_entropy.specs.Status.{ended_with}
 use Rattle.core_entropy.proofs.commands.replay.write_after.Goals as goal
 
 pub machine_at-requires-clause-ranking : goal.machine_at-requires-clause-ranking
-machine_at-requires-clause-ranking g c = rw c.as_slice.ensures.value c.in_ok-ranks.ensures.ranking
+machine_at-requires-clause-ranking g c = rw c.as_slice.ensures.value c.in_ok-ranks.ensures.begins.ranking
 
 pub machine_at-requires-clause-each : goal.machine_at-requires-clause-each
-machine_at-requires-clause-each g c = c.in_ok-ranks.ensures.is_vector.each
+machine_at-requires-clause-each g c = c.in_ok-ranks.ensures.begins.vector.each
 
 pub machine_at-requires-clause-some : goal.machine_at-requires-clause-some
-machine_at-requires-clause-some g c = c.in_ok-ranks.ensures.is_vector.positive
+machine_at-requires-clause-some g c = c.in_ok-ranks.ensures.begins.vector.positive
 
 pub machine_at-requires-clause-most : goal.machine_at-requires-clause-most
-machine_at-requires-clause-most g c = c.in_ok-ranks.ensures.small
+machine_at-requires-clause-most g c = c.in_ok-ranks.ensures.begins.small
 
 pub returns-clause-wrote : goal.returns-clause-wrote
 returns-clause-wrote g c =
     let rows = c.args.rows.now in
     let o = c.args.orbit.now in
     let p = c.in_ok-ranks.field-0 in
-    let h = c.in_ok-ranks.ensures in
+    let h = c.in_ok-ranks.ensures.prepared in
     let initial : Interval = record { low = p.bounds.low; high = p.bounds.high } in
     let is_initial : IsInitialEnclosure rows c.args.rounds initial = record {
       are_rows = h.are_rows;
       ranks = p.ranks.ranks;
       numbering = h.numbering;
-      low = h.bounds.low ∙ ap (λ (v : List ℕ). low_of rows p.ranks.ranks v) h.vector;
-      high = h.bounds.high ∙ ap (λ (v : List ℕ). high_of rows p.ranks.ranks v) h.vector;
+      bounds = record {
+        low = h.bounds.low ∙ ap (λ (v : List ℕ). low_of rows p.ranks.ranks v) h.vector;
+        high = h.bounds.high ∙ ap (λ (v : List ℕ). high_of rows p.ranks.ranks v) h.vector;
+      };
     } in
     let shared = shared_is rows p.ranks.ranks c.as_slice.result.now p.vector.items
     c.args.rounds initial c.args.events.now

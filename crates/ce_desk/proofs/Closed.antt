@@ -1,7 +1,6 @@
 -- The closing of a slot: the log of its one worker is a run to the bounds, and what was told lies around them. The
--- first
--- seat, which loaded the bounds, stands beside the worker like a session, so all that was proved of runs with sessions
--- holds here.
+-- first seat, which loaded the bounds, stands beside the worker like a session, so all that was proved of runs with
+-- sessions holds here.
 use Rattle.std.proofs.Common.{◌≡◌, ℕ, zero, suc, ◌+◌, ◌-◌, ◌*◌, ◌/◌, ◌<◌, ◌⊎◌, inl, inr, Bool, true, false, cond}
 use Rattle.std.proofs.Common.{eqb, slice_index, List, [], ◌∷◌, ◌++◌, length, All, refl, sym, ap, ◌∙◌, subst, append-nil}
 use Rattle.std.proofs.Common.{arith}

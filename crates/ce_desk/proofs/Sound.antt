@@ -9,19 +9,19 @@ use Rattle.ce_desk.specs.declared.closing.Closing.{Closing}
 use Rattle.ce_orbit.specs.Iterates.{most_places}
 use Rattle.ce_orbit.specs.Orbit.{HasOrbitWithin}
 use Rattle.ce_rows.specs.Scale.{IsExponent}
-use Rattle.ce_solve.proofs.Beginnings.{Begins, run_begins}
-use Rattle.ce_solve.proofs.TrueRuns.{known_ends_enclose, closing_ends}
+use Rattle.ce_solve.proofs.Beginnings.{HasTrueStart, run_has_true_start}
+use Rattle.ce_solve.proofs.RunsEnclose.{known_ends_enclose, closing_ends}
 use Rattle.ce_solve.specs.SolvedRows.{IsRunOf}
 use Rattle.ce_thurston.proofs.OrbitRows.{rows_in_range}
 use Rattle.ce_thurston.specs.Indices.{rows_at}
 use Rattle.ce_words.specs.declared.view.Run.{Run}
 
 module _ (rounds exponent : ℕ) (known : IsExponent exponent) where
-  -- The run of an orbit's rows begins with bounds that enclose.
-  begins : (angle : Fraction) (run : Run) (short : HasOrbitWithin most_places angle)
-      → IsRunOf (rows_at short.orbit exponent) rounds run → Begins run
-  begins angle run short h =
-      run_begins (rows_at short.orbit exponent) rounds run
+  -- The run of an orbit's rows starts with bounds that enclose.
+  true_start : (angle : Fraction) (run : Run) (short : HasOrbitWithin most_places angle)
+      → IsRunOf (rows_at short.orbit exponent) rounds run → HasTrueStart run
+  true_start angle run short h =
+      run_has_true_start (rows_at short.orbit exponent) rounds run
       (record { rows = rows_in_range short.orbit short.is_orbit short.few; scale = known }) h
 
   opened_sound : (desk after : Desk) (line : Option (List ℕ)) (text : List ℕ)
@@ -29,7 +29,7 @@ module _ (rounds exponent : ℕ) (known : IsExponent exponent) where
   opened_sound desk after line text o = record {
     short = o.short;
     run_of = o.opened.run_of;
-    initial = (begins o.slot.angle o.slot.run o.short o.opened.run_of).encloses;
+    initial = (true_start o.slot.angle o.slot.run o.short o.opened.run_of).encloses;
     told = subst (All (IsTrueOf o.slot.run)) (sym o.opened.told) (All-nil (IsTrueOf o.slot.run));
   }
 
@@ -78,7 +78,7 @@ module _ (rounds exponent : ℕ) (known : IsExponent exponent) where
       let places = closes.place ∷ [] in
       record {
         encloses = known_ends_enclose slot.run slot.turns places low high low high
-            (begins slot.angle slot.run sound.short sound.run_of) closes.is_run
+            (true_start slot.angle slot.run sound.short sound.run_of) closes.is_run
             (closing_ends slot.run slot.turns places low high closes.is_run);
         inside = record { from = closes.is_run.greatest.from; to = closes.is_run.least.from };
       }

@@ -72,7 +72,8 @@ pub record Opens (rounds exponent : ℕ) (desk : Desk) (line : Option (List ℕ)
   pub after_is : after ≡ record desk { slots = desk.slots ++ slot ∷ [] }
   pub spelled : text ≡ opened_text (length desk.slots) slot.angle slot.run.initial
 
--- A line reads a slot: the interval encloses, and lies inside all that was told of the slot.
+-- A line reads a slot: the interval encloses, and lies inside all that was told of the slot. Its ends are
+-- known only once the slot is closed.
 pub record Reads (desk : Desk) (line : Option (List ℕ)) (after : Desk) (text : List ℕ) : Type 0 where
   pub asked : List ℕ
   pub line_is : line ≡ Some asked
@@ -114,7 +115,8 @@ abbrev pub HasTurns : Run → Place → ℕ → Type 0
 HasTurns run p turns = ((made : ℕ) × IsTurns run p.part turns p.log made) ⊎ IsHaltedAfter run p.part turns p.log
 
 -- What a slot came to: its run with one worker and the granted turns; each interval that was read contains the closing
--- one, and its ends are initial or were certified in this run.
+-- one, and its ends are initial or were certified in this run. That the closing one encloses follows: the law
+-- `desks_tell_truly`.
 pub record Closes (slot : Slot) (closing : Closing) : Type 0 where
   pub place : Place
   pub is_run : IsRun slot.run slot.turns (place ∷ []) closing.interval.low closing.interval.high

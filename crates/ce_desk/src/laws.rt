@@ -6,8 +6,9 @@ ghost use Rattle.ce_desk.specs.DeskText.{AreReplies, Closes};
 ghost use Rattle.ce_desk.specs.Sound.{IsTrueOf, IsSound};
 ghost use Rattle.ce_desk.specs.declared.closing.Closing.{Closing};
 
-/// Each interval that a desk tells of a slot encloses the growth rate of the rows of its angle's
-/// orbit, and lies inside the initial enclosure.
+/// Each interval that a desk tells of a slot, when it is opened, read or closed, encloses the
+/// growth rate of the rows of its angle's orbit, and lies inside the initial enclosure: at the
+/// scales 2^32 and 2^48.
 pub fn desks_tell_truly()
     ensures replies { (rounds exponent : ℕ) (lines : List (Option (List ℕ))) (desk : Desk)
         (text : List ℕ) → IsExponent exponent → AreReplies rounds exponent 1 empty_desk lines desk text

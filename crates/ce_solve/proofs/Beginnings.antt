@@ -22,10 +22,10 @@ use Rattle.ce_solve.specs.SolvedRows.{AreInitialBounds, IsRunOf}
 use Rattle.ce_solve.specs.declared.preparing.Prepared.{Prepared}
 
 -- The initial bounds enclose, whatever the number of rounds.
-pub initial_enclose : (rows : ScaledRows) (ranks : List ℕ) (rounds : ℕ) (interval : Interval) → AreScaledRows rows
-    → IsRanking rows.list ranks → AreInitialBounds rows ranks rounds interval
+pub initial_bounds_enclose : (rows : ScaledRows) (ranks : List ℕ) (rounds : ℕ) (interval : Interval)
+    → AreScaledRows rows → IsRanking rows.list ranks → AreInitialBounds rows ranks rounds interval
     → EnclosesRows rows interval.low interval.high
-initial_enclose rows ranks rounds interval are ranking h =
+initial_bounds_enclose rows ranks rounds interval are ranking h =
     let vector = power_vector rows.list ranks rounds in
     let each = length-power_vector rows.list ranks rounds in
     let positive = power_vector-some rows.list ranks rounds in
@@ -36,17 +36,17 @@ initial_enclose rows ranks rounds interval are ranking h =
           (high_is_upper_bound rows are ranks vector ranking each positive);
     }
 
--- A run begins with a positive vector and with bounds that enclose.
-pub record Begins (run : Run) : Type 0 where
+-- A run starts with a positive vector and with bounds that enclose.
+pub record HasTrueStart (run : Run) : Type 0 where
   pub scaled : AreScaledRows (rows_of run)
   pub ranking : IsRanking run.rows run.ranks
   pub each : length run.start ≡ length run.rows
   pub positive : All (λ x. 1 ≤ x) run.start
   pub encloses : EnclosesRows (rows_of run) run.initial.low run.initial.high
 
-pub run_begins : (rows : ScaledRows) (rounds : ℕ) (run : Run) → AreScaledRows rows → IsRunOf rows rounds run
-    → Begins run
-run_begins rows rounds run are h =
+pub run_has_true_start : (rows : ScaledRows) (rounds : ℕ) (run : Run) → AreScaledRows rows → IsRunOf rows rounds run
+    → HasTrueStart run
+run_has_true_start rows rounds run are h =
     let vector = power_vector rows.list run.ranks rounds in
     let ranking = numbering_is_ranking rows.list run.ranks h.numbering in
     let same : rows ≡ rows_of run = sym h.rows_are in
@@ -58,22 +58,27 @@ run_begins rows rounds run are h =
       positive = subst (All (λ x. 1 ≤ x)) (sym h.start_is)
           (scaled-some vector (power_vector-some rows.list run.ranks rounds));
       encloses = subst (λ (r : ScaledRows). EnclosesRows r run.initial.low run.initial.high) same
-          (initial_enclose rows run.ranks rounds run.initial are ranking h.bounds);
+          (initial_bounds_enclose rows run.ranks rounds run.initial are ranking h.bounds);
     }
 
--- Scaled up, a vector that was prepared may start a run.
-pub may_start : (rows : ScaledRows) (p : Prepared) (start : List ℕ) → MayBegin rows p
+-- Scaled up, entries from 1 below 2^58 are a vector.
+pub scaled_is_vector : (rows : ScaledRows) (v : List ℕ) → length v ≡ length rows.list → All (λ x. 1 ≤ x) v
+    → All (λ x. x < 2 ^ 58) v → IsVectorOf rows (scaled_up v)
+scaled_is_vector rows v each some most = record {
+  each = length-map v (λ x. x * 2 ^ doublings v) ∙ each;
+  positive = scaled-some v some;
+  small = All-weaker (λ x. x < 2 ^ 58) (λ x. x ≤ 2 ^ 60) (λ x h. omega (arith, h)) (scaled_up v) (scaled-small v most);
+}
+
+-- What was prepared may start a run with its vector scaled up.
+pub scaled_starts : (rows : ScaledRows) (p : Prepared) (start : List ℕ) → MayBegin rows p
     → start ≡ scaled_up p.vector.items → IsStart rows p.ranks.ranks start p.bounds.low p.bounds.high
-may_start rows p start h is = record {
-  scaled = h.scaled;
-  ranking = h.ranking;
-  vector = subst (IsVectorOf rows) (sym is) (record {
-    each = length-map p.vector.items (λ x. x * 2 ^ doublings p.vector.items) ∙ h.vector.each;
-    positive = scaled-some p.vector.items h.vector.positive;
-    small = All-weaker (λ x. x < 2 ^ 58) (λ x. x ≤ 2 ^ 60) (λ x below. omega (arith, below)) (scaled_up p.vector.items)
-        (scaled-small p.vector.items h.small);
-  });
-  encloses = h.encloses;
-  from = h.from;
-  to = h.to;
+scaled_starts rows p start h is = record {
+  scaled = h.start.scaled;
+  ranking = h.start.ranking;
+  vector = subst (IsVectorOf rows) (sym is)
+      (scaled_is_vector rows p.vector.items h.start.vector.each h.start.vector.positive h.small);
+  encloses = h.start.encloses;
+  from = h.start.from;
+  to = h.start.to;
 }

@@ -1,18 +1,18 @@
 -- What a run hands out encloses the growth rate of its rows, inside the initial enclosure.
-use Rattle.std.proofs.Common.{◌≡◌, ◌≤◌, ◌^◌, ◌*◌, ◌+◌, ◌∙◌, ℕ, List, ap, subst, arith}
+use Rattle.std.proofs.Common.{◌≡◌, ◌≤◌, ◌^◌, ◌*◌, ◌+◌, ℕ, List, subst, arith}
 use Rattle.std.proofs.Math.Nat.{mul-le-mul_left, pow-le-pow_left}
 use Rattle.ce_cert.proofs.Enclose.{certificate_encloses}
-use Rattle.ce_cert.specs.Quotients.{low_of, high_of}
 use Rattle.ce_comp.specs.Numbering.{IsNumbering}
 use Rattle.ce_comp.proofs.Unique.{numbering_unique}
 use Rattle.ce_live.specs.declared.reading.Reading.{Reading}
 use Rattle.ce_rows.specs.Growth.{Encloses, IsGrowthLowerBound, IsGrowthUpperBound}
 use Rattle.ce_rows.specs.Rows.{AreRows, AreScaledRows, EnclosesRows, ScaledRows, all_walks}
-use Rattle.ce_vector.specs.PowerIteration.{power_vector}
+use Rattle.ce_rows.specs.declared.interval.Interval.{Interval}
 use Rattle.ce_words.specs.Logs.{Each}
 use Rattle.ce_words.specs.Steps.{LiesInside}
 use Rattle.ce_words.proofs.Sums.{Each-more}
-use Rattle.ce_solve.specs.SolvedRows.{Closing, IsSolved}
+use Rattle.ce_solve.proofs.LoneClosing.{one_bounds}
+use Rattle.ce_solve.specs.SolvedRows.{AreInitialBounds, Closing, IsSolved}
 
 -- What contains an interval that encloses does too.
 pub widened : (exponent : ℕ) (count : ℕ → ℕ) (low high from to : ℕ) → from ≤ low → high ≤ to
@@ -41,38 +41,24 @@ module _ (rows : ScaledRows) (rounds turns workers : ℕ) (closing : Closing)
   pub encloses : AreScaledRows rows → EnclosesRows rows closing.evidence.low closing.evidence.high
   encloses are = certificate_encloses rows closing.evidence are h.certificate
 
-  -- The initial enclosure is the bounds of the vector of power iteration, by any numbering.
-  module _ (ranks : List ℕ) (are : AreRows rows.list) (numbering : IsNumbering rows.list ranks) where
-    abbrev vector : List ℕ
-    vector = power_vector rows.list ranks rounds
+  -- The run begins at the initial bounds, by any numbering.
+  module _ (ranks : List ℕ) (initial : Interval) (are : AreRows rows.list) (numbering : IsNumbering rows.list ranks)
+      (bounds : AreInitialBounds rows ranks rounds initial) where
+    begins_at : h.run.initial ≡ initial
+    begins_at =
+        let same = numbering_unique rows.list are h.run.ranks ranks h.run_of.numbering numbering in
+        one_bounds rows rounds h.run.ranks ranks h.run.initial initial same h.run_of.bounds bounds
 
-    same : h.run.ranks ≡ ranks
-    same = numbering_unique rows.list are h.run.ranks ranks h.run_of.numbering numbering
+    pub inside : LiesInside initial.low initial.high closing.evidence.low closing.evidence.high
+    inside = subst (λ (i : Interval). LiesInside i.low i.high closing.evidence.low closing.evidence.high) begins_at
+        (record { from = h.is_run.greatest.from; to = h.is_run.least.from })
 
-    low_is : h.run.initial.low ≡ low_of rows ranks vector
-    low_is = h.run_of.bounds.low ∙ ap (λ (r : List ℕ). low_of rows r (power_vector rows.list r rounds)) same
-
-    high_is : h.run.initial.high ≡ high_of rows ranks vector
-    high_is = h.run_of.bounds.high ∙ ap (λ (r : List ℕ). high_of rows r (power_vector rows.list r rounds)) same
-
-    pub inside : LiesInside (low_of rows ranks vector) (high_of rows ranks vector) closing.evidence.low
-        closing.evidence.high
-    inside = record {
-      from = subst (λ (x : ℕ). x ≤ closing.evidence.low) low_is h.is_run.greatest.from;
-      to = subst (λ (x : ℕ). closing.evidence.high ≤ x) high_is h.is_run.least.from;
-    }
-
-    pub readings_inside : Each (λ (r : Reading). LiesInside (low_of rows ranks vector) (high_of rows ranks vector)
-        r.interval.low r.interval.high) closing.readings
+    pub readings_inside : Each
+        (λ (r : Reading). LiesInside initial.low initial.high r.interval.low r.interval.high) closing.readings
     readings_inside =
-        Each-more
-        (λ (r : Reading). LiesInside h.run.initial.low h.run.initial.high r.interval.low r.interval.high)
-        (λ (r : Reading). LiesInside (low_of rows ranks vector) (high_of rows ranks vector) r.interval.low
-        r.interval.high)
-        (λ r k. record {
-          from = subst (λ (x : ℕ). x ≤ r.interval.low) low_is k.from;
-          to = subst (λ (x : ℕ). r.interval.high ≤ x) high_is k.to;
-        }) closing.readings h.inside_initial
+        subst
+        (λ (i : Interval). Each (λ (r : Reading). LiesInside i.low i.high r.interval.low r.interval.high)
+        closing.readings) begins_at h.inside_initial
 
   pub readings_enclose : AreScaledRows rows
       → Each (λ (r : Reading). EnclosesRows rows r.interval.low r.interval.high) closing.readings

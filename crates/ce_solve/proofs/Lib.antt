@@ -3,7 +3,7 @@ pub mod Closing
 mod ClosingEnds
 pub mod FloorEnds
 pub mod Beginnings
-pub mod TrueRuns
+pub mod RunsEnclose
 pub mod Assembling
 pub mod After
 pub mod SolvedRuns

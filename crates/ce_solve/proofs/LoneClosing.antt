@@ -14,13 +14,16 @@ use Rattle.ce_solve.specs.ClosingVectors.{IsClosingLow, IsClosingHigh}
 use Rattle.ce_solve.specs.SolvedRows.{AreInitialBounds, Closing, IsRunOf, IsSolved}
 use Rattle.ce_solve.proofs.LoneRuns.{are_two, one_low, one_high, one_low_vector, one_high_vector}
 
+pub same_interval : (i j : Interval) → i.low ≡ j.low → i.high ≡ j.high → i ≡ j
+same_interval i j low high = (λ t. record { low = low t; high = high t })
+
 -- The ranks determine the initial bounds.
 pub one_bounds : (rows : ScaledRows) (rounds : ℕ) (ranks others : List ℕ) (i j : Interval) → ranks ≡ others
     → AreInitialBounds rows ranks rounds i → AreInitialBounds rows others rounds j → i ≡ j
 one_bounds rows rounds ranks others i j same h k =
     let low = h.low ∙ (ap (λ (n : List ℕ). low_of rows n (power_vector rows.list n rounds)) same ∙ sym k.low) in
     let high = h.high ∙ (ap (λ (n : List ℕ). high_of rows n (power_vector rows.list n rounds)) same ∙ sym k.high) in
-    (λ t. record { low = low t; high = high t })
+    same_interval i j low high
 
 -- The rows and the rounds determine where a run begins.
 pub one_start : (rows : ScaledRows) (rounds : ℕ) (r s : Run) → AreRows rows.list → IsRunOf rows rounds r

@@ -21,12 +21,12 @@ use Rattle.ce_solve.specs.ActorsInside.{IsClosingOf}
 use Rattle.ce_solve.specs.declared.collecting.Solved.{Solved}
 use Rattle.ce_solve.specs.declared.preparing.Prepared.{Prepared}
 
-pub initial_is : (rows : ScaledRows) (p : Prepared) (run : Run) (c : Certificate) → MayBegin rows p
-    → IsOpenedFor rows p run
+pub initial_is : (rows : ScaledRows) (rounds : ℕ) (p : Prepared) (run : Run) (c : Certificate)
+    → IsPrepared rows rounds p → MayBegin rows p → IsOpenedFor rows p run
     → c.ranks.items ≡ p.ranks.ranks → c.low ≡ p.bounds.low → c.low_rank ≡ p.bounds.low_rank → c.high ≡ p.bounds.high
     → c.low_vector.items ≡ p.vector.items → c.high_vector.items ≡ p.vector.items
     → IsInitialCertificate run c
-initial_is rows p run c h o ranks low rank high lv hv =
+initial_is rows rounds p run c h begins o ranks low rank high lv hv =
     let b : Bounds = record { low = c.low; low_rank = c.low_rank; high = c.high } in
     let same : p.bounds ≡ b = (λ i. record { low = sym low i; low_rank = sym rank i; high = sym high i }) in
     let one : AreBoundsIn rows p.ranks.ranks c.low_vector.items b =
@@ -41,7 +41,7 @@ initial_is rows p run c h o ranks low rank high lv hv =
       high = high ∙ sym o.high;
       one_vector = hv ∙ sym lv;
       vector = subst (λ (r : ScaledRows). IsVectorOf r c.low_vector.items) (sym o.rows_are)
-          (subst (λ (v : List ℕ). IsVectorOf rows v) (sym lv) h.vector);
+          (subst (λ (v : List ℕ). IsVectorOf rows v) (sym lv) begins.start.vector);
       bounds = two;
     }
 

@@ -26,14 +26,14 @@ use Rattle.ce_solve.specs.ChaoticRun.{IsRun, HasKnownEnds}
 use Rattle.ce_solve.specs.ClosingVectors.{IsClosingLow, IsClosingHigh}
 use Rattle.ce_solve.specs.declared.collecting.Solved.{Solved}
 
--- An interval is the Collatz-Wielandt bounds of the vector after so many rounds of power iteration
--- within the components. Sources: [HornJohnson], chapter 8; [Collatz1942], [Wielandt1950].
+-- The ends of an interval are the Collatz-Wielandt bounds, by these ranks, of the vector after so many
+-- rounds of power iteration. Sources: [HornJohnson], chapter 8; [Collatz1942], [Wielandt1950].
 pub record AreInitialBounds (rows : ScaledRows) (ranks : List ℕ) (rounds : ℕ) (interval : Interval) : Type 0 where
   pub low : interval.low ≡ low_of rows ranks (power_vector rows.list ranks rounds)
   pub high : interval.high ≡ high_of rows ranks (power_vector rows.list ranks rounds)
 
 -- A run of rows after so many rounds of power iteration: within the strongly connected components,
--- from the vector scaled up, and from its bounds.
+-- from the vector scaled up, and from the initial bounds.
 pub record IsRunOf (rows : ScaledRows) (rounds : ℕ) (run : Run) : Type 0 where
   pub rows_are : rows_of run ≡ rows
   pub numbering : IsNumbering rows.list run.ranks

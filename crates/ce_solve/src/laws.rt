@@ -1,13 +1,12 @@
 // What is true of all runs, and what of a run is determined. The laws stand on functions that do
 // nothing.
 ghost use Rattle.std.specs.Prelude.{◌≡◌, ℕ, List, [], ◌∷◌, length};
-ghost use Rattle.ce_cert.specs.Quotients.{low_of, high_of};
 ghost use Rattle.ce_comp.specs.Numbering.{IsNumbering};
 ghost use Rattle.ce_rows.specs.Rows.{ScaledRows, AreRows, AreScaledRows, EnclosesRows};
+ghost use Rattle.ce_rows.specs.declared.interval.Interval.{Interval};
 ghost use Rattle.ce_solve.specs.ChaoticRun.{IsRun, HasKnownEnds};
 ghost use Rattle.ce_solve.specs.ClosingVectors.{IsClosingLow, IsClosingHigh};
-ghost use Rattle.ce_solve.specs.SolvedRows.{Closing, IsRunOf, IsSolved};
-ghost use Rattle.ce_vector.specs.PowerIteration.{power_vector};
+ghost use Rattle.ce_solve.specs.SolvedRows.{AreInitialBounds, Closing, IsRunOf, IsSolved};
 ghost use Rattle.ce_words.specs.Logs.{Each};
 ghost use Rattle.ce_words.specs.Steps.{LiesInside};
 ghost use Rattle.ce_words.specs.declared.view.Place.{Place};
@@ -37,17 +36,17 @@ pub fn solved_runs_enclose()
     ensures encloses { (rows : ScaledRows) (rounds turns workers : ℕ) (closing : Closing) → AreScaledRows rows
         → IsSolved rows rounds turns workers closing
         → EnclosesRows rows closing.evidence.low closing.evidence.high }
-    ensures inside { (rows : ScaledRows) (rounds turns workers : ℕ) (ranks : List ℕ) (closing : Closing)
-        → AreRows rows.list → IsNumbering rows.list ranks → IsSolved rows rounds turns workers closing
-        → LiesInside (low_of rows ranks (power_vector rows.list ranks rounds))
-        (high_of rows ranks (power_vector rows.list ranks rounds)) closing.evidence.low closing.evidence.high }
+    ensures inside { (rows : ScaledRows) (rounds turns workers : ℕ) (ranks : List ℕ) (initial : Interval)
+        (closing : Closing) → AreRows rows.list → IsNumbering rows.list ranks
+        → AreInitialBounds rows ranks rounds initial → IsSolved rows rounds turns workers closing
+        → LiesInside initial.low initial.high closing.evidence.low closing.evidence.high }
     ensures readings { (rows : ScaledRows) (rounds turns workers : ℕ) (closing : Closing) → AreScaledRows rows
         → IsSolved rows rounds turns workers closing
         → Each (λ r. EnclosesRows rows r.interval.low r.interval.high) closing.readings }
-    ensures readings_inside { (rows : ScaledRows) (rounds turns workers : ℕ) (ranks : List ℕ) (closing : Closing)
-        → AreRows rows.list → IsNumbering rows.list ranks → IsSolved rows rounds turns workers closing
-        → Each (λ r. LiesInside (low_of rows ranks (power_vector rows.list ranks rounds))
-        (high_of rows ranks (power_vector rows.list ranks rounds)) r.interval.low r.interval.high) closing.readings }
+    ensures readings_inside { (rows : ScaledRows) (rounds turns workers : ℕ) (ranks : List ℕ) (initial : Interval)
+        (closing : Closing) → AreRows rows.list → IsNumbering rows.list ranks
+        → AreInitialBounds rows ranks rounds initial → IsSolved rows rounds turns workers closing
+        → Each (λ r. LiesInside initial.low initial.high r.interval.low r.interval.high) closing.readings }
 {}
 
 /// Whatever old values the workers of a run met, its bounds enclose the growth rate of its rows:
@@ -59,8 +58,8 @@ pub fn runs_enclose()
         → AreScaledRows rows → IsRunOf rows rounds run → IsRun run turns places low high
         → EnclosesRows rows low high }
     ensures certified { (rows : ScaledRows) (rounds turns : ℕ) (run : Run) (places : List Place)
-        (low high least most : ℕ) → AreScaledRows rows → IsRunOf rows rounds run → IsRun run turns places low high
-        → HasKnownEnds run places least most → EnclosesRows rows least most }
+        (low high from to : ℕ) → AreScaledRows rows → IsRunOf rows rounds run → IsRun run turns places low high
+        → HasKnownEnds run places from to → EnclosesRows rows from to }
 {}
 
 /// A run with one worker is determined: its log, step by step, the interval, the vectors, and with

@@ -4,7 +4,7 @@
 // run side by side by `run_crew`, and hands out by `collect` what they found: the closing of a run
 // of exactly so many workers, by the clause `solved`, which is IsSolved of specs/SolvedRows.
 // `solve` does it for an angle. The law `solved_runs_enclose` says what the numbers are worth, and
-// `runs_enclose` why any torn copy is good enough.
+// `runs_enclose` that bounds which were certified with old entries enclose too.
 #![tactic(auto)]
 
 mod angle;

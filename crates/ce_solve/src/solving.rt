@@ -29,7 +29,7 @@ use ce_words::{Board, Gate, Part, Seat};
 use std::alloc::Global;
 use std::thread::Threads;
 
-/// The board of a run, whose vector starts as the one of power iteration, scaled up.
+/// The board of a run, whose vector starts as the prepared one, scaled up.
 pub fn open_board(
     alloc: Global,
     rows: &Rows,

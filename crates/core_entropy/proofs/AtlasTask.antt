@@ -22,7 +22,7 @@ use Rattle.core_entropy.specs.Status.{IsCalledFor}
 use Rattle.core_entropy.specs.Task.{solved}
 use Rattle.core_entropy.specs.declared.status.Status.TheVariants.{Done}
 use Rattle.core_entropy.proofs.AngleTask.{claim_true, inside_initial}
-use Rattle.core_entropy.proofs.OneText.{same_interval}
+use Rattle.ce_solve.proofs.LoneClosing.{same_interval}
 use Rattle.core_entropy.proofs.Stages.{IsLawful}
 
 module _ (order rounds exponent : ℕ) (known : IsExponent exponent) where

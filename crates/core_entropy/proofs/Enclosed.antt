@@ -10,12 +10,12 @@ use Rattle.ce_thurston.specs.Pairs.{pair_walks}
 use Rattle.ce_thurston.proofs.OrbitRows.{rows_total}
 use Rattle.core_entropy.specs.InitialEnclosure.{IsInitialEnclosure}
 use Rattle.ce_thurston.specs.Indices.{rows_at}
-use Rattle.ce_solve.proofs.Beginnings.{initial_enclose}
+use Rattle.ce_solve.proofs.Beginnings.{initial_bounds_enclose}
 
 pub initial_encloses : (rows : ScaledRows) (rounds : ℕ) (interval : Interval)
     → IsInitialEnclosure rows rounds interval → EnclosesRows rows interval.low interval.high
 initial_encloses rows rounds interval h =
-    initial_enclose rows h.ranks rounds interval h.are_rows
+    initial_bounds_enclose rows h.ranks rounds interval h.are_rows
     (numbering_is_ranking rows.list h.ranks h.numbering) h.bounds
 
 -- What encloses the growth of counts encloses that of the same counts.

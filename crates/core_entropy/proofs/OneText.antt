@@ -23,19 +23,13 @@ use Rattle.ce_thurston.specs.Indices.{rows_at}
 use Rattle.core_entropy.specs.Replay.{IsReplayText, replay_text, replayed}
 use Rattle.core_entropy.specs.Show.{IsShowText, show_text}
 
-pub same_interval : (i j : Interval) → i.low ≡ j.low → i.high ≡ j.high → i ≡ j
-same_interval i j low high =
-    let with_low : ℕ → Interval = λ n. record { low = n; high = i.high } in
-    let with_high : ℕ → Interval = λ n. record { low = j.low; high = n } in
-    ap with_low low ∙ ap with_high high
-
 pub one_enclosure : (rows : ScaledRows) (rounds : ℕ) (i j : Interval) → IsInitialEnclosure rows rounds i
     → IsInitialEnclosure rows rounds j → i ≡ j
 one_enclosure rows rounds i j h k =
     let ranks = numbering_unique rows.list h.are_rows.rows h.ranks k.ranks h.numbering k.numbering in
     one_bounds rows rounds h.ranks k.ranks i j ranks h.bounds k.bounds
 
--- With no turns a run is_initial at the initial enclosure.
+-- With no turns a run ends at the initial enclosure.
 pub closing_is_initial : (rows : ScaledRows) (rounds workers : ℕ) (e : Closing) → AreScaledRows rows
     → IsSolved rows rounds 0 workers e → IsInitialEnclosure rows rounds (interval_of e)
 closing_is_initial rows rounds workers e are h = record {

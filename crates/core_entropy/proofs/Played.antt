@@ -1,8 +1,6 @@
 -- Events that were played, and scripts for the rows of an orbit.
-use Rattle.std.proofs.Common.{◌≡◌, ◌<◌, ◌≤◌, ◌*◌, ◌^◌, ◌∙◌, ℕ, List, length, refl, ap, subst}
-use Rattle.std.proofs.Common.{arith}
+use Rattle.std.proofs.Common.{◌≡◌, ◌<◌, ◌≤◌, ◌∙◌, ℕ, List, length, refl, ap, subst}
 use Rattle.std.specs.Prelude.{All}
-use Rattle.std.proofs.lemmas.List.{length-map}
 use Rattle.std.proofs.lemmas.List.Elements.{All-weaker}
 use Rattle.ce_cert.specs.Start.{IsStart}
 use Rattle.ce_cert.specs.Vectors.{IsVectorOf}
@@ -15,28 +13,20 @@ use Rattle.ce_core.specs.State.{CoreState}
 use Rattle.ce_core.proofs.Runs.{sound_after}
 use Rattle.ce_orbit.specs.Orbit.{ForwardOrbit, IsForwardOrbit, HasOrbitWithin}
 use Rattle.ce_rows.specs.Events.{actor_of}
-use Rattle.ce_rows.specs.Rows.{ScaledRows, EnclosesRows}
+use Rattle.ce_rows.specs.Rows.{ScaledRows}
 use Rattle.ce_rows.specs.declared.event.Event.{Event}
 use Rattle.ce_rows.specs.declared.row.Row.{Row}
 use Rattle.ce_rows.specs.declared.interval.Interval.{Interval}
 use Rattle.ce_thurston.specs.Indices.{rows_of_orbit}
 use Rattle.ce_vector.specs.PowerIteration.{power_vector}
-use Rattle.ce_vector.specs.Start.{doublings, scaled_up, start_of}
+use Rattle.ce_vector.specs.Start.{scaled_up, start_of}
 use Rattle.ce_vector.proofs.Powers.{length-power_vector, power_vector-some, power_vector-small}
-use Rattle.ce_vector.proofs.Scaled.{scaled-some, scaled-small}
+use Rattle.ce_solve.proofs.Beginnings.{scaled_is_vector}
 use Rattle.ce_solve.proofs.FloorEnds.{floor_low, floor_high}
+use Rattle.core_entropy.proofs.Enclosed.{initial_encloses}
 use Rattle.core_entropy.specs.InitialEnclosure.{IsInitialEnclosure}
 use Rattle.ce_thurston.specs.Indices.{rows_at}
 use Rattle.core_entropy.specs.Replay.{HasBadLine, HasScript, replayed}
-
--- Scaled up, entries from 1 below 2^58 are a vector.
-pub scaled_is_vector : (rows : ScaledRows) (v : List ℕ) → length v ≡ length rows.list → All (λ x. 1 ≤ x) v
-    → All (λ x. x < 2 ^ 58) v → IsVectorOf rows (scaled_up v)
-scaled_is_vector rows v each some most = record {
-  each = length-map v (λ x. x * 2 ^ doublings v) ∙ each;
-  positive = scaled-some v some;
-  small = All-weaker (λ x. x < 2 ^ 58) (λ x. x ≤ 2 ^ 60) (λ x h. omega (arith, h)) (scaled_up v) (scaled-small v most);
-}
 
 start_is_vector : (rows : ScaledRows) (ranks : List ℕ) (rounds : ℕ) → rounds ≤ 36
     → IsVectorOf rows (start_of rows.list ranks rounds)
@@ -46,19 +36,19 @@ start_is_vector rows ranks rounds few =
 
 -- What holds after events from the initial enclosure.
 pub replay_sound : (rows : ScaledRows) (rounds : ℕ) (initial : Interval) (events : List Event) → rounds ≤ 36
-    → (is_initial : IsInitialEnclosure rows rounds initial) → EnclosesRows rows initial.low initial.high
+    → (is_initial : IsInitialEnclosure rows rounds initial)
     → All (IsEventBelow (length rows.list)) events
     → IsSound rows initial.low initial.high
     (after_events rows is_initial.ranks
     (machine_at_start 16 (start_of rows.list is_initial.ranks rounds) initial.low initial.high)
     events)
-replay_sound rows rounds initial events few is_initial encloses below =
+replay_sound rows rounds initial events few is_initial below =
     let start : IsStart rows is_initial.ranks (start_of rows.list is_initial.ranks rounds) initial.low initial.high =
     record {
       scaled = is_initial.are_rows;
       ranking = numbering_is_ranking rows.list is_initial.ranks is_initial.numbering;
       vector = start_is_vector rows is_initial.ranks rounds few;
-      encloses = encloses;
+      encloses = initial_encloses rows rounds initial is_initial;
       from = rw is_initial.bounds.low
           (floor_low rows is_initial.are_rows is_initial.ranks
           (numbering_is_ranking rows.list is_initial.ranks is_initial.numbering) rounds);

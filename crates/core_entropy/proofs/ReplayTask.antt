@@ -31,7 +31,6 @@ use Rattle.ce_core.specs.declared.script.ScriptError.{ScriptError}
 use Rattle.ce_core.specs.declared.script.ScriptError.TheVariants as script_error
 use Rattle.core_entropy.proofs.AngleTask.{long_or_not, not_long, one_true, short_if}
 use Rattle.core_entropy.proofs.Ended.{answered}
-use Rattle.core_entropy.proofs.Enclosed.{initial_encloses}
 use Rattle.core_entropy.proofs.Played.{replay_sound}
 use Rattle.ce_core.proofs.ScriptEnds.{script_ends}
 use Rattle.core_entropy.proofs.Stages.{IsLawful, unless_one, unless_some, unless_called}
@@ -83,8 +82,7 @@ module _ (angle : Fraction) (rounds exponent : ℕ) (few : rounds ≤ 36) where
   replay_true script text h =
       let rows = rows_at h.orbit exponent in
       let sound =
-      replay_sound rows rounds h.initial h.events few h.is_initial
-      (initial_encloses rows rounds h.initial h.is_initial) h.read.below in
+      replay_sound rows rounds h.initial h.events few h.is_initial h.read.below in
       let encloses = subst (λ (s : Shared). EnclosesRows rows s.low s.high) (sym h.after) sound.encloses in
       let inside : IsInsideInitial rows (shared_interval h.shared) rounds = record {
         initial = h.initial;

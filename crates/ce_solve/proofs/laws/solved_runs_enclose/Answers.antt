@@ -6,13 +6,13 @@ returns-clause-encloses c = λ rows rounds turns workers closing are h.
     encloses rows rounds turns workers closing h are
 
 pub returns-clause-inside : goal.returns-clause-inside
-returns-clause-inside c = λ rows rounds turns workers ranks closing are numbering h.
-    inside rows rounds turns workers closing h ranks are numbering
+returns-clause-inside c = λ rows rounds turns workers ranks initial closing are numbering bounds h.
+    inside rows rounds turns workers closing h ranks initial are numbering bounds
 
 pub returns-clause-readings : goal.returns-clause-readings
 returns-clause-readings c = λ rows rounds turns workers closing are h.
     readings_enclose rows rounds turns workers closing h are
 
 pub returns-clause-readings_inside : goal.returns-clause-readings_inside
-returns-clause-readings_inside c = λ rows rounds turns workers ranks closing are numbering h.
-    readings_inside rows rounds turns workers closing h ranks are numbering
+returns-clause-readings_inside c = λ rows rounds turns workers ranks initial closing are numbering bounds h.
+    readings_inside rows rounds turns workers closing h ranks initial are numbering bounds

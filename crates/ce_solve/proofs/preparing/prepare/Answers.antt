@@ -27,7 +27,6 @@ pub returns-clause-prepared : goal.returns-clause-prepared
 returns-clause-prepared c =
     let ranks = c.in_ok-ranks.ranks.ranks in
     record {
-      are_rows = c.len-len.ensures.rows;
       numbering = c.in_ok-ranks.ensures.numbering;
       vector = c.in_ok-vector.ensures
           ∙ ap (λ (r : List ℕ). power_vector c.args.rows.now.list r c.args.rounds) c.as_slice.ensures.value;
@@ -40,26 +39,20 @@ pub returns-clause-begins : goal.returns-clause-begins
 returns-clause-begins c =
     let rows = c.args.rows.now in let ranks = c.in_ok-ranks.ranks.ranks in let are = c.len-len.ensures.rows in
     let ranking = numbering_is_ranking rows.list ranks c.in_ok-ranks.ensures.numbering in
-    let made : c.in_ok-vector.vector.items ≡ power_vector rows.list ranks c.args.rounds =
-    c.in_ok-vector.ensures ∙ ap (λ (r : List ℕ). power_vector rows.list r c.args.rounds) c.as_slice.ensures.value in
-    let vector : IsVectorOf rows c.in_ok-vector.vector.items = subst (λ (v : List ℕ). IsVectorOf rows v) (sym made)
-    (floor_vector rows are ranks ranking c.args.rounds c.requires) in
-    let b = c.in_ok-bounds.bounds in let e = c.in_ok-bounds.ensures in
-    let bounds : AreBoundsIn rows ranks c.in_ok-vector.vector.items b =
-    subst (λ (v : List ℕ). AreBoundsIn rows ranks v b) c.deref.ensures.value
-    (subst (λ (r : List ℕ). AreBoundsIn rows r c.deref.result.now b) c.as_slice-2.ensures.value e.bounds) in
-    let low : b.low ≡ low_of rows ranks (power_vector rows.list ranks c.args.rounds) =
-    bounds.low ∙ ap (λ (v : List ℕ). low_of rows ranks v) made in
-    let high : b.high ≡ high_of rows ranks (power_vector rows.list ranks c.args.rounds) =
-    bounds.high ∙ ap (λ (v : List ℕ). high_of rows ranks v) made in
+    let p = returns-clause-prepared c in
+    let e = c.in_ok-bounds.ensures in
+    let low = p.bounds.low ∙ ap (λ (v : List ℕ). low_of rows ranks v) p.vector in
+    let high = p.bounds.high ∙ ap (λ (v : List ℕ). high_of rows ranks v) p.vector in
     record {
-      scaled = are;
-      ranking = ranking;
-      vector = vector;
-      small = subst (λ (v : List ℕ). All (λ x. x < 2 ^ 58) v) (sym made)
+      start = record {
+        scaled = are;
+        ranking = ranking;
+        vector = subst (λ (v : List ℕ). IsVectorOf rows v) (sym p.vector)
+            (floor_vector rows are ranks ranking c.args.rounds c.requires);
+        encloses = record { below = e.below; above = e.above };
+        from = rw low (floor_low rows are ranks ranking c.args.rounds);
+        to = rw high (floor_high rows are ranks ranking c.args.rounds);
+      };
+      small = subst (λ (v : List ℕ). All (λ x. x < 2 ^ 58) v) (sym p.vector)
           (power_vector-small rows.list ranks c.args.rounds c.requires);
-      bounds = bounds;
-      encloses = record { below = e.below; above = e.above };
-      from = rw low (floor_low rows are ranks ranking c.args.rounds);
-      to = rw high (floor_high rows are ranks ranking c.args.rounds);
     }

@@ -6,14 +6,14 @@ use Rattle.ce_words.specs.Seats.{board_run}
 use Rattle.ce_words.specs.declared.view.Run.{Run}
 use Rattle.ce_solve.specs.Prepared.{IsOpenedFor}
 use Rattle.ce_solve.proofs.Assembling.{if_ok}
-use Rattle.ce_solve.proofs.Beginnings.{may_start}
+use Rattle.ce_solve.proofs.Beginnings.{scaled_starts}
 use Rattle.ce_solve.proofs.solving.open_board.Goals as goal
 
 pub scale_start-requires-clause-some : goal.scale_start-requires-clause-some
 scale_start-requires-clause-some c =
     let vec : c.deref_mut.result.now ≡ c.args.prepared.now.vector.items =
     c.deref_mut.ensures.value ∙ (c.in_ok-start.ensures.items ∙ c.deref.ensures.value) in
-    subst (λ (v : List ℕ). All (λ x. 1 ≤ x) v) (sym vec) c.requires.vector.positive
+    subst (λ (v : List ℕ). All (λ x. 1 ≤ x) v) (sym vec) c.requires.start.vector.positive
 
 pub scale_start-requires-clause-most : goal.scale_start-requires-clause-most
 scale_start-requires-clause-most c =
@@ -33,7 +33,7 @@ new-requires c =
     record {
       start = subst (λ (r : List ℕ). IsStart rows r start prepared.bounds.low prepared.bounds.high)
           (sym c.as_slice.ensures.value)
-          (may_start rows prepared start c.requires (s ∙ (c.scale_start.ensures.value ∙ ap scaled_up vec)));
+          (scaled_starts rows prepared start c.requires (s ∙ (c.scale_start.ensures.value ∙ ap scaled_up vec)));
     }
 
 pub returns-clause-run : goal.returns-clause-run
@@ -60,7 +60,7 @@ returns-clause-run c =
       high = refl;
       start_is = start_is;
       starts = subst (λ (r : List ℕ). IsStart rows r start prepared.bounds.low prepared.bounds.high)
-          (sym c.as_slice.ensures.value) (may_start rows prepared start c.requires start_is);
+          (sym c.as_slice.ensures.value) (scaled_starts rows prepared start c.requires start_is);
     } in
     if_ok _ (λ made. board_run made.0 ≡ run) (λ made. IsOpenedFor rows prepared (board_run made.0)) c.new.ensures.run
     (λ made is. subst (λ (r : Run). IsOpenedFor rows prepared r) (sym is) opened)

@@ -31,8 +31,8 @@ run_and_collect-requires-clause-parts g c t lives =
 pub run_and_collect-requires-clause-initial : goal.run_and_collect-requires-clause-initial
 run_and_collect-requires-clause-initial g c t lives =
     let f = c.in_ok-initial.ensures in
-    initial_is c.args.rows.now c.in_ok-prepared.prepared
-    (board_run c.in_ok-board.board) c.in_ok-initial.initial c.in_ok-prepared.ensures.begins
+    initial_is c.args.rows.now c.args.settings.rounds c.in_ok-prepared.prepared (board_run c.in_ok-board.board)
+    c.in_ok-initial.initial c.in_ok-prepared.ensures.prepared c.in_ok-prepared.ensures.begins
     c.in_ok-board.ensures.run f.ranks
     f.low f.low_rank f.high f.low_vector f.high_vector
 

@@ -11,13 +11,13 @@ use Rattle.core_entropy.specs.Status.{ended_with}
 use Rattle.core_entropy.proofs.commands.replay.write_after.Goals as goal
 
 pub machine_at-requires-clause-ranking : goal.machine_at-requires-clause-ranking
-machine_at-requires-clause-ranking g c = rw c.as_slice.ensures.value c.in_ok-ranks.ensures.begins.ranking
+machine_at-requires-clause-ranking g c = rw c.as_slice.ensures.value c.in_ok-ranks.ensures.begins.start.ranking
 
 pub machine_at-requires-clause-each : goal.machine_at-requires-clause-each
-machine_at-requires-clause-each g c = c.in_ok-ranks.ensures.begins.vector.each
+machine_at-requires-clause-each g c = c.in_ok-ranks.ensures.begins.start.vector.each
 
 pub machine_at-requires-clause-some : goal.machine_at-requires-clause-some
-machine_at-requires-clause-some g c = c.in_ok-ranks.ensures.begins.vector.positive
+machine_at-requires-clause-some g c = c.in_ok-ranks.ensures.begins.start.vector.positive
 
 pub machine_at-requires-clause-most : goal.machine_at-requires-clause-most
 machine_at-requires-clause-most g c = c.in_ok-ranks.ensures.begins.small
@@ -30,7 +30,7 @@ returns-clause-wrote g c =
     let h = c.in_ok-ranks.ensures.prepared in
     let initial : Interval = record { low = p.bounds.low; high = p.bounds.high } in
     let is_initial : IsInitialEnclosure rows c.args.rounds initial = record {
-      are_rows = h.are_rows;
+      are_rows = c.in_ok-ranks.ensures.begins.start.scaled;
       ranks = p.ranks.ranks;
       numbering = h.numbering;
       bounds = record {

@@ -26,7 +26,7 @@ use Rattle.ce_crew.specs.Turn.{IsHalt}
 use Rattle.ce_crew.specs.WorkerLogs.{IsTurns}
 use Rattle.ce_crew.proofs.BestVectors.{offered}
 use Rattle.ce_crew.proofs.Grown.{length-after, steps-append}
-use Rattle.ce_solve.proofs.Beginnings.{Begins}
+use Rattle.ce_solve.proofs.Beginnings.{HasTrueStart}
 use Rattle.ce_solve.specs.ChaoticRun.{IsLogOf, IsCertifiedLow, IsCertifiedHigh, IsRun, HasKnownEnds}
 
 -- A state of the shared words, for the answers of a halt.
@@ -91,20 +91,20 @@ module _ (run : Run) where
       let first = no_store own n.act n.carried n.answer e m.0 in
       omega (arith, first, no_stores (after_answer own n.act n.answer) ns e m.1)
 
-  -- What certifies a number carries a bound.
-  module _ (start : Begins run) where
-    record HasCopy (own : ActorState) : Type 0 where
+  module _ (start : HasTrueStart run) where
+    record HasPositiveCopy (own : ActorState) : Type 0 where
       each : length own.copy ≡ length run.rows
       positive : All (λ x. 1 ≤ x) own.copy
 
-    raised : (own : ActorState) (act : Act) (x a c : ℕ) → IsMachineStep run own (logged act x a) → HasCopy own
+    -- A number that an actor with a positive copy offers is a bound.
+    raised : (own : ActorState) (act : Act) (x a c : ℕ) → IsMachineStep run own (logged act x a) → HasPositiveCopy own
         → 0 < offer is_raise c (logged act x a) → IsLowerBoundOf (rows_of run) c
     raised own Raises x a c m copy some =
         subst (IsLowerBoundOf (rows_of run)) (sym m.carries ∙ offered x c some)
         (low_is_lower_bound (rows_of run) start.scaled run.ranks own.copy start.ranking copy.each copy.positive)
     raised own _ x a c m copy some = absurd (omega (arith, some))
 
-    lowered : (own : ActorState) (act : Act) (x a c : ℕ) → IsMachineStep run own (logged act x a) → HasCopy own
+    lowered : (own : ActorState) (act : Act) (x a c : ℕ) → IsMachineStep run own (logged act x a) → HasPositiveCopy own
         → 0 < offer is_lower c (logged act x a) → IsUpperBoundOf (rows_of run) c
     lowered own Lowers x a c m copy some =
         subst (IsUpperBoundOf (rows_of run)) (sym m.carries ∙ offered x c some)
@@ -137,7 +137,7 @@ module _ (run : Run) where
 
       -- So a copy stays positive.
       some_after : (p : Place) (before : List LogEntry) (own : ActorState) (act : Act) (x a : ℕ)
-          → FitsIn p before (logged act x a) → IsMachineStep run own (logged act x a) → HasCopy own
+          → FitsIn p before (logged act x a) → IsMachineStep run own (logged act x a) → HasPositiveCopy own
           → All (λ y. 1 ≤ y) (after_answer own act a).copy
       some_after p before own (Loads e) x a f m copy = elim (cases_lt e (length own.copy)) [
         | inl inside ↦ All-set (λ y. 1 ≤ y) own.copy e a
@@ -151,18 +151,18 @@ module _ (run : Run) where
       some_after p before own _ x a f m copy = copy.positive
 
       copy_after : (p : Place) (before : List LogEntry) (own : ActorState) (n : LogEntry) → FitsIn p before n
-          → IsMachineStep run own n → HasCopy own → HasCopy (after_answer own n.act n.answer)
+          → IsMachineStep run own n → HasPositiveCopy own → HasPositiveCopy (after_answer own n.act n.answer)
       copy_after p before own n f m copy = record {
         each = length-after own n.act n.answer ∙ copy.each;
         positive = some_after p before own n.act n.carried n.answer f m copy;
       }
 
-      record AreBounds (log : List LogEntry) : Type 0 where
+      record CertifiesBounds (log : List LogEntry) : Type 0 where
         low : (c : ℕ) → 0 < times is_raise c log → IsLowerBoundOf (rows_of run) c
         high : (c : ℕ) → 0 < times is_lower c log → IsUpperBoundOf (rows_of run) c
 
       certified : (p : Place) (before log : List LogEntry) → AreMachineSteps run (kept run before) log
-          → EachFits (FitsIn p) before log → HasCopy (kept run before) → AreBounds log
+          → EachFits (FitsIn p) before log → HasPositiveCopy (kept run before) → CertifiesBounds log
       certified p before [] m f copy =
           record { low = λ c h. absurd (omega (arith, h)); high = λ c h. absurd (omega (arith, h)) }
       certified p before (n ∷ ns) m f copy =
@@ -170,7 +170,7 @@ module _ (run : Run) where
           let kept_is = sym (kept-snoc run before n) in
           let rest = certified p (before ++ n ∷ []) ns
           (subst (λ (s : ActorState). AreMachineSteps run s ns) kept_is m.1) f.1
-          (subst HasCopy kept_is (copy_after p before own n f.0 m.0 copy)) in
+          (subst HasPositiveCopy kept_is (copy_after p before own n f.0 m.0 copy)) in
           record {
             low = λ c h. elim (cases_lt 0 (times is_raise c ns)) [
               | inl later ↦ rest.low c later
@@ -182,7 +182,7 @@ module _ (run : Run) where
             ];
           }
 
-      of_place : (p : Place) → IsMachineLog p → IsPossible p → AreBounds p.log
+      of_place : (p : Place) → IsMachineLog p → IsPossible p → CertifiesBounds p.log
       of_place p m f = certified p [] p.log m f
           (record { each = start.each; positive = start.positive })
 
@@ -203,19 +203,19 @@ module _ (run : Run) where
       ]
 
 -- Ends that are initial or were certified in a run enclose.
-pub known_ends_enclose : (run : Run) (turns : ℕ) (places : List Place) (least most low high : ℕ) → Begins run
-    → IsRun run turns places least most → HasKnownEnds run places low high → EnclosesRows (rows_of run) low high
-known_ends_enclose run turns places least most low high start r ends =
-    let machine = Each-more (IsLogOf run turns least most) (IsMachineLog run) (log_steps run turns least most) places
+pub known_ends_enclose : (run : Run) (turns : ℕ) (places : List Place) (low high from to : ℕ) → HasTrueStart run
+    → IsRun run turns places low high → HasKnownEnds run places from to → EnclosesRows (rows_of run) from to
+known_ends_enclose run turns places low high from to start r ends =
+    let machine = Each-more (IsLogOf run turns low high) (IsMachineLog run) (log_steps run turns low high) places
     r.logs in
     record {
       below = elim ends.low_end [
         | inl is ↦ subst (IsLowerBoundOf (rows_of run)) (sym is) start.encloses.below
-        | inr c ↦ low_of_places run start places machine low places machine r.answers c
+        | inr c ↦ low_of_places run start places machine from places machine r.answers c
       ];
       above = elim ends.high_end [
         | inl is ↦ subst (IsUpperBoundOf (rows_of run)) (sym is) start.encloses.above
-        | inr c ↦ high_of_places run start places machine high places machine r.answers c
+        | inr c ↦ high_of_places run start places machine to places machine r.answers c
       ];
     }
 
